@@ -1,10 +1,10 @@
 -- What the rule's choice is: no share qualifies, or one that does, with the greatest run length and then the smallest number.
-use Prim.Native.Nat.{ℕ, zero, suc, _+_, _*_, _-_, _≤_, _<_}
+use Prim.Native.Nat.{ℕ, suc, _+_, _*_, _-_, _≤_, _<_}
 use native.Mathlib.Nat.{le-refl, div-lt-iff-lt-mul}
 use native.Mathlib.Decide.{decLt}
 use native.Mathlib.Omega.{arith}
 use mathlib.Core.Path.{_≡_, refl, sym, _∙_}
-use mathlib.Core.Logic.{_≢_, _⊎_, inl, inr}
+use mathlib.Core.Logic.{_⊎_, inl, inr}
 use mathlib.Core.Bool.{Bool, true, false, cond, _&&_, true≢false}
 use mathlib.Core.List.{List, [], _∷_, List·Memᴰ, List·Memᴰ·head, List·Memᴰ·tail}
 use mathlib.Core.Option.{Option, some, none}
@@ -34,7 +34,7 @@ not-open t p e o =
     true≢false (simp (le-leb t (p .job .deadline) (o .due), lt-ltb 0 (p .left) (o .more), lt-ltb (p .given) (p .job .bound) (o .below)) at e)
 
 -- p goes before q
-pub Before : Share → Share → Type 0
+unfoldable pub Before : Share → Share → Type 0
 Before p q = (runLeft q < runLeft p) ⊎ ((runLeft q ≡ runLeft p) × (p .job .number < q .job .number))
 
 pub goes-before : (p q : Share) → before p q ≡ true → Before p q

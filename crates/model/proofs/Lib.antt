@@ -5,3 +5,15 @@ pub mod SlotLemma
 pub mod Shares
 pub mod Necessity
 pub mod Sufficiency
+pub mod AllSlots
+pub mod LeastShort
+pub mod Start
+pub mod Order
+pub mod Rows
+pub mod FirstColumn
+pub mod Exactly
+pub mod Easier
+pub mod Document
+pub mod RuleIs
+pub mod Worked
+pub mod Theorems

@@ -12,7 +12,7 @@ use borrow.Author.Tests.{eq-eqb, ne-eqb, eqb-true}
 use Rattle.model.specs.Lists.{All, total, Distinct, upto}
 use Rattle.model.specs.Jobs.{Job, numbers}
 use Rattle.model.specs.Rule.{Share, fresh, next, bump, give, giveTo, handOut, clear, fill, nobody, shareOf, cell}
-use Rattle.model.proofs.Lists.{upto-same}
+use Rattle.model.proofs.Lists.{mem-map, upto-same}
 use Rattle.model.proofs.Choice.{Open, Choice, choice}
 
 -- the jobs of some shares: no step of the rule changes them
@@ -116,6 +116,14 @@ share-clear n (p ∷ ps) = go (eqb (p .job .number) n) (share-clear n ps)
     go : (t : Bool) → shareOf n (map clear ps) ≡ clear (shareOf n ps) → cond t (clear p) (shareOf n (map clear ps)) ≡ clear (cond t p (shareOf n ps))
     go true e = refl
     go false e = e
+
+-- the share of a listed job before any slot is filled
+pub fresh-distinct : (jobs : List Job) → Distinct (numbers jobs) → Distinct (numbersOf (map fresh jobs))
+fresh-distinct jobs d = rw (numbers-fresh jobs) d
+
+pub share-fresh : (jobs : List Job) → Distinct (numbers jobs) → (j : Job) → List·Memᴰ j jobs → shareOf (j .number) (map fresh jobs) ≡ fresh j
+unfolding fresh
+share-fresh jobs d j m = share-of (fresh j) (fresh-distinct jobs d) (mem-map fresh j m)
 
 pub left-le : (n : ℕ) (ps : List Share) → (shareOf n ps) .left ≤ total (λ p. p .left) ps
 unfolding nobody fresh

@@ -12,7 +12,7 @@ use mathlib.Core.List.{List, [], _∷_, map, List·Memᴰ, List·Memᴰ·head, L
 use mathlib.Core.Option.{Option, some, none}
 use lib.Dec.{leb, eqb}
 use borrow.Author.Tests.{eq-eqb, le-leb, leb-true}
-use Rattle.model.specs.Lists.{All, total}
+use Rattle.model.specs.Lists.{total}
 use Rattle.model.specs.Rule.{Share, runLeft, next, bump, give, giveTo, handOut, clear, fill, excessOf, excess}
 use Rattle.model.specs.Claims.{SlotLemma}
 use Rattle.model.proofs.Lists.{total-le, total-same, total-map, All-map, All-of}

@@ -1,7 +1,7 @@
 -- R1: where the forced work is at most C × b at each b, the plan is a valid schedule.
 use Prim.Native.Nat.{ℕ, zero, suc, _+_, _*_, _-_, _≤_, _<_, min}
 use native.Mathlib.Nat.{le-trans, le-of-eq, mul-le-mul-left}
-use native.Mathlib.Decide.{ℕ-discrete, decLe}
+use native.Mathlib.Decide.{ℕ-discrete}
 use native.Mathlib.Omega.{arith}
 use mathlib.Core.Path.{_≡_, refl, sym, ap}
 use mathlib.Core.Logic.{_≢_, _⊎_, inl, inr}
@@ -10,14 +10,14 @@ use mathlib.Core.List.{List, [], _∷_, map, List·Memᴰ}
 use mathlib.Core.Option.{Option, some, none}
 use lib.Dec.{leb}
 use borrow.Author.Tests.{leb-true, leb-false}
-use Rattle.model.specs.Lists.{All, total, Distinct, upto}
+use Rattle.model.specs.Lists.{All, total, Distinct}
 use Rattle.model.specs.Jobs.{Job, numbers, forcedOf, forced}
 use Rattle.model.specs.Schedules.{Serves, Valid}
 use Rattle.model.specs.Rule.{Share, fresh, next, bump, give, giveTo, handOut, clear, fill, shareOf, cell, planFrom, excessOf, excess}
-use Rattle.model.proofs.Lists.{total-add, total-zero, total-le, total-same, total-map, All-map, All-of, All-mem, All-at, mem-map, upto-stop}
+use Rattle.model.proofs.Lists.{total-add, total-zero, total-le, total-same, total-map, All-map, All-of, All-mem, All-at, upto-stop}
 use Rattle.model.proofs.Choice.{Choice, choice}
 use Rattle.model.proofs.SlotLemma.{slot-lemma, fill-le}
-use Rattle.model.proofs.Shares.{numbersOf, numbers-giveTo, numbers-clear, numbers-fill, numbers-fresh, share-of, share-other, share-given, share-clear, left-le, rest, at-slot, under-slot, within-bound, none-late, all-parts}
+use Rattle.model.proofs.Shares.{numbersOf, numbers-giveTo, numbers-clear, numbers-fill, fresh-distinct, share-fresh, share-of, share-other, share-given, share-clear, left-le, rest, at-slot, under-slot, within-bound, none-late, all-parts}
 
 -- the forced work up to b of what is left, where the slots from t down to 1 are still to be filled
 keeps : ℕ → ℕ → Share → ℕ
@@ -233,7 +233,7 @@ module _ (ns : List ℕ) (dn : Distinct ns) where
 
 module _ (C last : ℕ) (jobs : List Job) (distinct : Distinct (numbers jobs)) (by-last : All (λ j. j .deadline ≤ last) jobs) (enough : (b : ℕ) → forced jobs b ≤ C * b) where
   begun : Distinct (numbersOf (map fresh jobs))
-  begun = rw (numbers-fresh jobs) distinct
+  begun = fresh-distinct jobs distinct
 
   served : (j : Job) → List·Memᴰ j jobs → Serves (planFrom last (λ s. C) jobs (j .number)) j
   unfolding planFrom fresh
@@ -251,7 +251,7 @@ module _ (C last : ℕ) (jobs : List Job) (distinct : Distinct (numbers jobs)) (
   }
     where
       mine : shareOf (j .number) (map fresh jobs) ≡ fresh j
-      mine = share-of (fresh j) begun (mem-map fresh j m)
+      mine = share-fresh jobs distinct j m
 
       late : (t : ℕ) → j .deadline < t → cell (λ s. C) last (map fresh jobs) (j .number) t ≡ 0
       late t l = none-late (λ s. C) (j .number) last (map fresh jobs) begun t (rw mine l)

@@ -1,7 +1,7 @@
 -- Document 002, section 3.1: Definitions 1 and 2 and the condition of Lemma 1, for a list of jobs.
 use Prim.Native.Nat.{ℕ, zero, suc, _+_, _*_, _-_, _≤_, _<_, min}
 use mathlib.Core.Bool.{cond}
-use mathlib.Core.List.{List, [], _∷_}
+use mathlib.Core.List.{List}
 use lib.Dec.{leb}
 use lib.ListN.{length, getD}
 use Rattle.model.specs.Lists.{All, total}

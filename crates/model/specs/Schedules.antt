@@ -1,5 +1,5 @@
 -- 01, "The room and the desk": what a valid schedule is. y n t is the machines of job number n in slot t; slots count from 1.
-use Prim.Native.Nat.{ℕ, suc, _-_, _≤_, _<_}
+use Prim.Native.Nat.{ℕ, _-_, _≤_, _<_}
 use mathlib.Core.Path.{_≡_}
 use mathlib.Core.Bool.{cond}
 use mathlib.Core.List.{List, [], _∷_}
