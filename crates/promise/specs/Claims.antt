@@ -1,0 +1,87 @@
+-- The headline statements about the promises, each a proposition with a name. proofs/Theorems.antt has one theorem for each.
+use Prim.Native.Nat.{ℕ, _+_, _*_, _-_, _≤_, _<_}
+use mathlib.Core.Path.{_≡_}
+use mathlib.Core.Logic.{_≢_, _↔_}
+use mathlib.Core.List.{List, [], _∷_, _++_}
+use lib.IntN.{pos, _-ℤ_}
+use lib.ListN.{length, getD}
+use Rattle.model.specs.Lists.{All, Perm}
+use Rattle.model.specs.Jobs.{forced}
+use Rattle.model.specs.Boundaries.{LeastShort}
+use Rattle.model.specs.Schedules.{Possible}
+use Rattle.model.specs.Rule.{plan}
+use Rattle.promise.specs.declared.Answer.{Answer}
+use Rattle.promise.specs.declared.RoomAnswer.{RoomAnswer}
+use Rattle.promise.specs.Answers.{yes}
+use Rattle.promise.specs.Order.{GivenBy}
+use Rattle.promise.specs.Rows.{rowAt, rowCount, jobsOf, plan-buffer, listFault, listOrder}
+use Rattle.promise.specs.Lists.{planned, Holds, answerOf, planOrder, planAnswer, planBuffer, PlanPromise, roomOrder, roomAnswer, roomFigure, RoomPromise}
+
+-- P1: on a yes the buffer holds the plan by job number, row by row and slot by slot, and what was lent beyond
+pub record Planned (machines : ℕ) (rows lent : List ℕ) : Type 0 where
+  pub cells : (i t : ℕ) → i < rowCount rows → 1 ≤ t → t ≤ 168
+      → getD (planBuffer machines rows lent) (168 * i + t - 1) 0 ≡ plan machines (planned machines rows) ((rowAt rows i) .number) t
+  pub beyond : (k : ℕ) → 168 * rowCount rows ≤ k → getD (planBuffer machines rows lent) k 0 ≡ getD lent k 0
+
+abbrev pub YesWritesThePlan : Type 0
+YesWritesThePlan = (machines : ℕ) (rows lent : List ℕ) → (planAnswer machines rows (length lent)) .number ≡ 0 → Planned machines rows lent
+
+-- P1: a refusal leaves the buffer as it was lent, and its length never changes
+abbrev pub RefusalWritesNothing : Type 0
+RefusalWritesNothing =
+    (machines : ℕ) (rows lent : List ℕ)
+    → ((planAnswer machines rows (length lent)) .number ≢ 0 → planBuffer machines rows lent ≡ lent) × (length (planBuffer machines rows lent) ≡ length lent)
+
+-- P2: each number of Plan and of Room exactly when its row holds and no earlier one in the order does
+abbrev pub PlanAnswersByTheTable : Type 0
+PlanAnswersByTheTable =
+    (machines : ℕ) (rows : List ℕ) (size : ℕ)
+    → GivenBy (Holds machines rows) (answerOf machines rows) (planOrder rows size) (planAnswer machines rows size)
+
+abbrev pub RoomAnswersByTheTable : Type 0
+RoomAnswersByTheTable =
+    (machines : ℕ) (rows : List ℕ) (b : ℕ)
+    → GivenBy (Holds machines rows) (answerOf machines rows) (roomOrder rows b) (roomAnswer machines rows b)
+
+-- P3: where none of 1 to 6 holds, Plan answers 7 exactly if no schedule at all is valid for the list as it was sent;
+-- its place is then the least short boundary and its amount the shortage there, above 0
+pub record SevenIsTrue (machines : ℕ) (rows : List ℕ) (a : Answer) : Type 0 where
+  pub exactly : (a .number ≡ 7) ↔ (¬ Possible machines (jobsOf rows))
+  pub names : a .number ≡ 7 → LeastShort machines (planned machines rows) (record { place = a .place; amount = a .amount }) × (0 < a .amount)
+
+abbrev pub PlanSevenIsTrue : Type 0
+PlanSevenIsTrue =
+    (machines : ℕ) (rows : List ℕ) (size : ℕ)
+    → All (λ x. ¬ Holds machines rows x) (listOrder rows ++ (plan-buffer size ∷ []))
+    → SevenIsTrue machines rows (planAnswer machines rows size)
+
+-- Rm: the figure of Room is C × b less the forced work, of any sign, and 0 in a refusal
+abbrev pub RoomFigureIsTheRoom : Type 0
+RoomFigureIsTheRoom =
+    (machines : ℕ) (rows : List ℕ) (b : ℕ)
+    → (roomAnswer machines rows b ≡ yes → roomFigure machines rows b ≡ pos (machines * b) -ℤ pos (forced (planned machines rows) b))
+    × (roomAnswer machines rows b ≢ yes → roomFigure machines rows b ≡ pos 0)
+
+-- rows in another order: the same answer, and the same machines for each job number in each slot
+pub record SameForEachNumber (machines : ℕ) (rows rows′ lent lent′ : List ℕ) : Type 0 where
+  pub answer : planAnswer machines rows (length lent) ≡ planAnswer machines rows′ (length lent′)
+  pub machines-same : (i k t : ℕ) → i < rowCount rows → k < rowCount rows′ → (rowAt rows i) .number ≡ (rowAt rows′ k) .number → 1 ≤ t → t ≤ 168
+      → (planAnswer machines rows (length lent)) .number ≡ 0
+      → getD (planBuffer machines rows lent) (168 * i + t - 1) 0 ≡ getD (planBuffer machines rows′ lent′) (168 * k + t - 1) 0
+
+abbrev pub RowOrderPlaysNoPart : Type 0
+RowOrderPlaysNoPart =
+    (machines : ℕ) (rows rows′ lent lent′ : List ℕ) → Perm (jobsOf rows) (jobsOf rows′)
+    → listFault machines rows ≡ yes → listFault machines rows′ ≡ yes
+    → 168 * rowCount rows ≤ length lent → 168 * rowCount rows′ ≤ length lent′
+    → SameForEachNumber machines rows rows′ lent lent′
+
+-- uniqueness: one answer and one content of the buffer meet the promise
+abbrev pub PlanPromiseLeavesOne : Type 0
+PlanPromiseLeavesOne =
+    (machines : ℕ) (rows lent : List ℕ) (a a′ : Answer) (after after′ : List ℕ)
+    → PlanPromise machines rows lent a after → PlanPromise machines rows lent a′ after′ → (a ≡ a′) × (after ≡ after′)
+
+abbrev pub RoomPromiseLeavesOne : Type 0
+RoomPromiseLeavesOne =
+    (machines : ℕ) (rows : List ℕ) (b : ℕ) (r r′ : RoomAnswer) → RoomPromise machines rows b r → RoomPromise machines rows b r′ → r ≡ r′

@@ -1,0 +1,5 @@
+pub mod Answers
+pub mod Order
+pub mod Rows
+pub mod Lists
+pub mod Claims
