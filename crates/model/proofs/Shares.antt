@@ -61,6 +61,9 @@ numbers-jobs (p ∷ ps) = ap (λ (ns : List ℕ). p .job .number ∷ ns) (number
 same-numbers : (ps qs : List Share) → jobsOf ps ≡ jobsOf qs → numbersOf ps ≡ numbersOf qs
 same-numbers ps qs e = numbers-jobs ps ∙ ap numbers e ∙ sym (numbers-jobs qs)
 
+pub numbers-give : (n : ℕ) (ps : List Share) → numbersOf (give n ps) ≡ numbersOf ps
+numbers-give n ps = same-numbers (give n ps) ps (jobs-give n ps)
+
 pub numbers-giveTo : (o : Option Share) (ps : List Share) → numbersOf (giveTo o ps) ≡ numbersOf ps
 numbers-giveTo o ps = same-numbers (giveTo o ps) ps (jobs-giveTo o ps)
 

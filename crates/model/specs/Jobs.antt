@@ -35,8 +35,11 @@ unfoldable pub forced : List Job → ℕ → ℕ
 forced jobs b = total (forcedOf b) jobs
 
 -- "The room at b is C × b less the forced work: a signed number"
+abbrev pub roomOf : ℕ → ℕ → ℤ
+roomOf capacity forcedWork = pos capacity -ℤ pos forcedWork
+
 unfoldable pub room : ℕ → List Job → ℕ → ℤ
-room C jobs b = pos (C * b) -ℤ pos (forced jobs b)
+room C jobs b = roomOf (C * b) (forced jobs b)
 
 -- the bound that counts in a room of C machines: the job's own
 unfoldable pub width : ℕ → ℕ → ℕ
