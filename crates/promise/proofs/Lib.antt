@@ -1,0 +1,9 @@
+pub mod Given
+pub mod Table
+pub mod Sound
+pub mod Buffer
+pub mod Fit
+pub mod Room
+pub mod RowOrder
+pub mod Unique
+pub mod Theorems

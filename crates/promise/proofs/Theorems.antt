@@ -1,0 +1,41 @@
+-- The headline statements of specs/Claims.antt, one theorem each.
+use Rattle.promise.specs.Claims.{YesWritesThePlan, RefusalWritesNothing, PlanAnswersByTheTable, RoomAnswersByTheTable, PlanSevenIsTrue, RoomFigureIsTheRoom, RowOrderPlaysNoPart, PlanPromiseLeavesOne, RoomPromiseLeavesOne}
+use Rattle.promise.proofs.Buffer
+use Rattle.promise.proofs.Table
+use Rattle.promise.proofs.Fit
+use Rattle.promise.proofs.Room
+use Rattle.promise.proofs.RowOrder
+use Rattle.promise.proofs.Unique
+
+-- P1
+pub yes-writes-the-plan : YesWritesThePlan
+yes-writes-the-plan = Buffer.yes-writes-the-plan
+
+pub refusal-writes-nothing : RefusalWritesNothing
+refusal-writes-nothing = Buffer.refusal-writes-nothing
+
+-- P2
+pub plan-answers-by-the-table : PlanAnswersByTheTable
+plan-answers-by-the-table = Table.plan-answers-by-the-table
+
+pub room-answers-by-the-table : RoomAnswersByTheTable
+room-answers-by-the-table = Table.room-answers-by-the-table
+
+-- P3
+pub plan-seven-is-true : PlanSevenIsTrue
+plan-seven-is-true = Fit.plan-seven-is-true
+
+-- Rm
+pub room-figure-is-the-room : RoomFigureIsTheRoom
+room-figure-is-the-room = Room.room-figure-is-the-room
+
+-- rows in another order
+pub row-order-plays-no-part : RowOrderPlaysNoPart
+row-order-plays-no-part = RowOrder.row-order-plays-no-part
+
+-- uniqueness
+pub plan-promise-leaves-one : PlanPromiseLeavesOne
+plan-promise-leaves-one = Unique.plan-promise-leaves-one
+
+pub room-promise-leaves-one : RoomPromiseLeavesOne
+room-promise-leaves-one = Unique.room-promise-leaves-one

@@ -1,0 +1,10 @@
+-- One answer, one figure and one content of the buffer meet a promise.
+use mathlib.Core.Path.{sym, _∙_}
+use Rattle.promise.specs.Claims.{PlanPromiseLeavesOne, RoomPromiseLeavesOne}
+
+pub plan-promise-leaves-one : PlanPromiseLeavesOne
+plan-promise-leaves-one machines rows lent a a′ after after′ p q = (p .answered ∙ sym (q .answered), p .left ∙ sym (q .left))
+
+pub room-promise-leaves-one : RoomPromiseLeavesOne
+room-promise-leaves-one machines rows b r r′ p q =
+    λ i. record { answer = (p .answered ∙ sym (q .answered)) i; room = (p .figure ∙ sym (q .figure)) i }
