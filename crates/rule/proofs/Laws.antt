@@ -5,7 +5,7 @@ use native.Mathlib.Omega.{arith}
 use mathlib.Core.Path.{_≡_, refl, sym, _∙_, ap, ap₂}
 use mathlib.Core.Logic.{_≢_}
 use mathlib.Core.Bool.{Bool, true, false, cond}
-use mathlib.Core.List.{List, [], _∷_, _++_, map}
+use mathlib.Core.List.{List, [], _∷_, map}
 use mathlib.Core.Option.{Option, some, none}
 use lib.Dec.{ltb}
 use lib.ListN.{length, getD, take, drop, set, length-map, length-set}
@@ -17,15 +17,12 @@ use Rattle.model.specs.Rule.{runLeft, qualifies, before, choose, next, bump, gi
 use Rattle.model.specs.Jobs.{runLength}
 use Rattle.model.proofs.Choice.{is-open}
 use Rattle.model.proofs.Shares.{numbersOf, numbers-give}
+use Rattle.figures.proofs.Tables.{swept, sweep-here, sweep-step}
 use Rattle.rule.specs.declared.Share.{Share}
 use Rattle.rule.specs.declared.Table.{Table}
 use Rattle.rule.specs.declared.Chosen.{Chosen}
 use Rattle.rule.specs.declared.Chosen.the-variants.{Nothing, At}
 use Rattle.rule.specs.Shares.{asShare, sharesOf, bumped, cleared, Ready, either, chooseOf, pickFrom}
-
--- the length of an array in a struct
-pub length-unmapped : (A B : Type 0) (f : A → B) (l : List A) (n : ℕ) → length (map f l) ≡ n → length l ≡ n
-length-unmapped A B f l n p = sym (length-map l f) ∙ p
 
 -- a share that qualifies, test by test
 module _ (t : ℕ) (p : Model.Share) where
@@ -90,10 +87,6 @@ turn-start t n l h = go (take n l) (length-take-le n l h)
   where
     go : (m : List Share) → length m ≡ n → Nothing ≡ pickFrom t n (drop n m)
     go m e = rw (← e, drop-length m) refl
-
-pub turn-end : (t i : ℕ) (l : List Share) → i ≡ 0 → pickFrom t i (drop i l) ≡ pickFrom t 0 l
-turn-end t i [] e = rw e refl
-turn-end t i (p ∷ l) e = rw e refl
 
 -- the choice, as the model makes it
 abbrev asOption : Chosen → Option Model.Share
@@ -237,25 +230,10 @@ module _ (t n : ℕ) (now : Table) (hn : n ≤ length (now .shares)) where
       found-length = ap length f ∙ length-set (now .shares) k (bumped p)
 
 -- clearing, one share after the other
-pub clear-start : (l : List Share) → l ≡ map cleared (take 0 l) ++ drop 0 l
-clear-start [] = refl
-clear-start (p ∷ l) = refl
-
-pub clear-step : (l : List Share) (i : ℕ) (d : Share) → i < length l → (now : List Share) → now ≡ map cleared (take i l) ++ drop i l
-    → set now i (cleared (getD now i d)) ≡ map cleared (take (suc i) l) ++ drop (suc i) l
-clear-step [] i d h now e = absurd (omega arith)
-clear-step (p ∷ l) zero d h now e = rw e refl
-clear-step (p ∷ l) (suc i) d h now e = rw e (ap (λ (m : List Share). cleared p ∷ m) (clear-step l i d (omega arith) (map cleared (take i l) ++ drop i l) refl))
-
-pub clear-end : (l : List Share) (i : ℕ) → i ≡ length l → map cleared (take i l) ++ drop i l ≡ map cleared l
-clear-end [] i e = rw e refl
-clear-end (p ∷ l) i e = rw e (ap (λ (m : List Share). cleared p ∷ m) (clear-end l (length l) refl))
-
-pub clear-length : (l : List Share) (i : ℕ) → length (map cleared (take i l) ++ drop i l) ≡ length l
-clear-length [] zero = refl
-clear-length [] (suc i) = refl
-clear-length (p ∷ l) zero = refl
-clear-length (p ∷ l) (suc i) = ap suc (clear-length l i)
+pub clear-step : (l : List Share) (i : ℕ) (d : Share) → i < length l → (now : List Share) → now ≡ swept cleared l l i
+    → set now i (cleared (getD now i d)) ≡ swept cleared l l (suc i)
+clear-step l i d h now e =
+    rw e (ap (λ (p : Share). set (swept cleared l l i) i (cleared p)) (sweep-here cleared l l i d h) ∙ sweep-step cleared l l i d h h)
 
 -- a cleared table is a cleared list of shares
 pub clear-shares : (n : ℕ) (t u : Table) → u .shares ≡ map cleared (t .shares) → sharesOf n u ≡ map clear (sharesOf n t)

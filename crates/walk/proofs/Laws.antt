@@ -6,13 +6,12 @@ use native.Mathlib.Omega.{arith}
 use mathlib.Core.Path.{_≡_, refl, sym, _∙_, ap, subst}
 use mathlib.Core.Logic.{inl, inr}
 use mathlib.Core.Bool.{Bool, true, false, cond}
-use mathlib.Core.List.{List, [], _∷_, map, List·Memᴰ, List·Memᴰ·head, List·Memᴰ·tail}
+use mathlib.Core.List.{List, [], _∷_, List·Memᴰ, List·Memᴰ·head, List·Memᴰ·tail}
 use mathlib.Core.Option.{some, none, orElse}
 use lib.Dec.{leb, ltb}
 use lib.IntN.{ℤ, pos}
 use lib.ListN.{length, getD, take, drop, length-map, length-drop, length-take}
 use lib.Signed.{mag, ltZ}
-use lib.Seq.{drop-cons, drop-length, getD-take, length-take-le}
 use borrow.Author.Tests.{lt-ltb, le-ltb, ltb-true, ltb-false, le-leb, lt-leb, leb-true, leb-false}
 use Rattle.model.specs.Lists.{All, Rising}
 use Rattle.model.specs.Jobs as Model
@@ -22,16 +21,13 @@ use Rattle.model.specs.Boundaries.{Boundary, boundaries, shortage, shortAt, fir
 use Rattle.model.proofs.Lists.{All-map, All-at}
 use Rattle.model.proofs.LeastShort.{boundaries-rise, listed-boundaries, zero-listed, deadline-listed}
 use Rattle.figures.proofs.Signed.{sub-mag}
+use Rattle.figures.proofs.Tables.{first-length, first-from, first-past}
 use Rattle.figures.specs.declared.Job.{Job}
 use Rattle.figures.specs.Jobs.{asJob}
 use Rattle.walk.specs.declared.Jobs.{Jobs}
 use Rattle.walk.specs.declared.Next.{Next}
 use Rattle.walk.specs.declared.Next.the-variants.{Nothing, At}
 use Rattle.walk.specs.Walk.{asJobs, InRange, Small, either, closerTo, closerOf, nextOf}
-
--- the length of an array in a struct
-pub length-unmapped : (A B : Type 0) (f : A → B) (l : List A) (n : ℕ) → length (map f l) ≡ n → length l ≡ n
-length-unmapped A B f l n p = sym (length-map l f) ∙ p
 
 -- the first n jobs, from index i on
 forced-small : (b : ℕ) (l : List Model.Job) → All InRange l → forced l b ≤ 60000 * length l
@@ -40,30 +36,17 @@ forced-small b [] a = omega arith
 forced-small b (j ∷ l) a = omega (arith, a .0 .0, forced-small b l (a .1))
 
 module _ (n : ℕ) (list : Jobs) (hn : n ≤ length (list .jobs)) where
-  jobs-length : length (asJobs n list) ≡ n
+  pub jobs-length : length (asJobs n list) ≡ n
   unfolding asJobs
-  jobs-length = length-map (take n (list .jobs)) asJob ∙ length-take-le n (list .jobs) hn
+  jobs-length = first-length asJob n (list .jobs) hn
 
   pub jobs-from : (i : ℕ) (d : Job) → i < n → drop i (asJobs n list) ≡ asJob (getD (list .jobs) i d) ∷ drop (suc i) (asJobs n list)
   unfolding asJobs
-  jobs-from i d h =
-      drop-cons (asJobs n list) i (asJob d) (omega (arith, jobs-length))
-      ∙ ap (λ (j : Model.Job). j ∷ drop (suc i) (asJobs n list)) (go (take n (list .jobs)) i ∙ ap asJob (getD-take n (list .jobs) i d h))
-    where
-      go : (l : List Job) (i : ℕ) → getD (map asJob l) i (asJob d) ≡ asJob (getD l i d)
-      go [] i = refl
-      go (j ∷ l) zero = refl
-      go (j ∷ l) (suc i) = go l i
+  jobs-from = first-from asJob n (list .jobs) hn
 
   pub jobs-past : drop n (asJobs n list) ≡ []
-  jobs-past = ap (λ (k : ℕ). drop k (asJobs n list)) (sym jobs-length) ∙ drop-length (asJobs n list)
-
-  pub jobs-all : (i : ℕ) → i ≡ 0 → drop i (asJobs n list) ≡ asJobs n list
-  jobs-all i e = rw e (go (asJobs n list))
-    where
-      go : (l : List Model.Job) → drop 0 l ≡ l
-      go [] = refl
-      go (j ∷ l) = refl
+  unfolding asJobs
+  jobs-past = first-past asJob n (list .jobs) hn
 
   pub in-range-at : (i : ℕ) (d : Job) → i < n → Small n list → InRange (asJob (getD (list .jobs) i d))
   in-range-at i d h s = go (asJobs n list) i s (jobs-from i d h)

@@ -2,16 +2,16 @@ use Prim.Native.Nat.{_≤_, _-_}
 use native.Mathlib.Omega.{arith}
 use native.Mathlib.Numerals.{add-one}
 use mathlib.Core.Path.{_≡_, _∙_}
-use mathlib.Core.List.{_++_, map}
-use lib.ListN.{length, take, drop}
+use lib.ListN.{length}
 use Rattle.rule.specs.Shares.{cleared}
-use Rattle.rule.proofs.Laws.{length-unmapped, clear-start, clear-step, clear-end}
+use Rattle.figures.proofs.Tables.{length-unmapped, swept, sweep-start, sweep-end}
+use Rattle.rule.proofs.Laws.{clear-step}
 use borrow.Author.Needs.{needs}
 use Rattle.rule.proofs.clear.Statement.{statement}
 use Rattle.rule.proofs.clear.Tie as tie
 
 abbrev Inv-loop : tie.InvT-loop
-Inv-loop now₀ i₀ now i = (i ≤ 32) × (now .shares ≡ map cleared (take i (now₀ .shares)) ++ drop i (now₀ .shares))
+Inv-loop now₀ i₀ now i = (i ≤ 32) × (now .shares ≡ swept cleared (now₀ .shares) (now₀ .shares) i)
 
 abbrev μ-loop : tie.MeasureT-loop
 μ-loop now₀ i₀ now i = 32 - i
@@ -20,7 +20,7 @@ len : (c : tie.Start Inv-loop μ-loop) → length (c .args .table .shares) ≡ 3
 len c = search (needs, length-unmapped)
 
 loop-holds : tie.Need-loop-holds Inv-loop μ-loop
-loop-holds c = (omega arith, clear-start (c .args .table .shares))
+loop-holds c = (omega arith, sweep-start cleared (c .args .table .shares) (c .args .table .shares))
 
 mul-now : tie.Need-mul-now Inv-loop μ-loop
 mul-now c = omega arith
@@ -42,7 +42,8 @@ loop-again c =
 returns : tie.Need-returns Inv-loop μ-loop
 returns c =
     let s = c .before in
-    s .loop .inv .1 ∙ clear-end (s .before .args .table .shares) (s .loop .i) (omega (arith, len (s .before)))
+    let l = s .before .args .table .shares in
+    s .loop .inv .1 ∙ sweep-end cleared l l (s .loop .i) (omega (arith, len (s .before))) (omega (arith, len (s .before)))
 
 pub clear-spec : {M : Type 1} → statement M
 clear-spec =

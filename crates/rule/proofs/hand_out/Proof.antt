@@ -6,7 +6,8 @@ use Rattle.model.specs.Rule.{handOut}
 use Rattle.model.proofs.Shares.{numbersOf}
 use Rattle.rule.specs.Shares.{sharesOf, pickFrom}
 use Rattle.rule.specs.declared.Chosen.the-variants.{At}
-use Rattle.rule.proofs.Laws.{length-unmapped, found-none, found-ready, found-step, found-distinct, found-length}
+use Rattle.figures.proofs.Tables.{length-unmapped}
+use Rattle.rule.proofs.Laws.{found-none, found-ready, found-step, found-distinct, found-length}
 use borrow.Author.Needs.{needs}
 use Rattle.rule.proofs.hand_out.Statement.{statement}
 use Rattle.rule.proofs.hand_out.Tie as tie

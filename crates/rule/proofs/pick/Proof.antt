@@ -1,9 +1,10 @@
 use Prim.Native.Nat.{_≤_, _-_, suc}
 use native.Mathlib.Omega.{arith}
-use mathlib.Core.Path.{_≡_, _∙_}
+use mathlib.Core.Path.{_≡_, _∙_, ap₂}
 use lib.ListN.{length, take, drop}
 use Rattle.rule.specs.Shares.{pickFrom}
-use Rattle.rule.proofs.Laws.{length-unmapped, turn-start, turn-yes, turn-no, turn-end}
+use Rattle.figures.proofs.Tables.{length-unmapped, drop-none}
+use Rattle.rule.proofs.Laws.{turn-start, turn-yes, turn-no}
 use borrow.Author.Needs.{needs}
 use Rattle.rule.proofs.pick.Statement.{statement}
 use Rattle.rule.proofs.pick.Tie as tie
@@ -65,7 +66,8 @@ returns : tie.Need-returns Inv-loop μ-loop
 returns c =
     let s = c .before in
     let a = s .before .args in
-    s .loop .inv .1 ∙ turn-end (a .t) (s .loop .i) (take (a .n) (a .t1 .shares)) (omega arith)
+    let e : s .loop .i ≡ 0 = omega arith in
+    s .loop .inv .1 ∙ ap₂ (pickFrom (a .t)) e (drop-none (take (a .n) (a .t1 .shares)) (s .loop .i) e)
 
 pub pick-spec : {M : Type 1} → statement M
 pick-spec =

@@ -4,7 +4,8 @@ use mathlib.Core.Path.{_≡_, sym, _∙_, ap}
 use lib.ListN.{length, drop}
 use Rattle.model.specs.Jobs.{forced}
 use Rattle.walk.specs.Walk.{asJobs}
-use Rattle.walk.proofs.Laws.{length-unmapped, jobs-past, jobs-all, in-range-at, forced-step, forced-from-small}
+use Rattle.figures.proofs.Tables.{length-unmapped, drop-none}
+use Rattle.walk.proofs.Laws.{jobs-past, in-range-at, forced-step, forced-from-small}
 use borrow.Author.Needs.{needs}
 use Rattle.walk.proofs.forced_by.Statement.{statement}
 use Rattle.walk.proofs.forced_by.Tie as tie
@@ -67,7 +68,7 @@ returns : tie.Need-returns Inv-loop μ-loop
 returns c =
     let s = c .before in
     let a = s .before .args in
-    s .loop .inv .1 ∙ ap (λ l. forced l (a .b)) (jobs-all (a .n) (a .t1) (fits (s .before)) (s .loop .i) (omega arith))
+    s .loop .inv .1 ∙ ap (λ l. forced l (a .b)) (drop-none (asJobs (a .n) (a .t1)) (s .loop .i) (omega arith))
 
 pub forced-by-spec : {M : Type 1} → statement M
 forced-by-spec =

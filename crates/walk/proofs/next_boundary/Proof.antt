@@ -3,7 +3,8 @@ use native.Mathlib.Omega.{arith}
 use mathlib.Core.Path.{_≡_, sym, _∙_, ap}
 use lib.ListN.{length, drop}
 use Rattle.walk.specs.Walk.{asJobs, nextOf}
-use Rattle.walk.proofs.Laws.{length-unmapped, jobs-past, jobs-all, next-step}
+use Rattle.figures.proofs.Tables.{length-unmapped, drop-none}
+use Rattle.walk.proofs.Laws.{jobs-past, next-step}
 use borrow.Author.Needs.{needs}
 use Rattle.walk.proofs.next_boundary.Statement.{statement}
 use Rattle.walk.proofs.next_boundary.Tie as tie
@@ -49,7 +50,7 @@ returns : tie.Need-returns Inv-loop μ-loop
 returns c =
     let s = c .before in
     let a = s .before .args in
-    s .loop .inv .1 ∙ ap (nextOf (a .b)) (jobs-all (a .n) (a .t1) (fits (s .before)) (s .loop .i) (omega arith))
+    s .loop .inv .1 ∙ ap (nextOf (a .b)) (drop-none (asJobs (a .n) (a .t1)) (s .loop .i) (omega arith))
 
 pub next-boundary-spec : {M : Type 1} → statement M
 next-boundary-spec =
