@@ -1,8 +1,9 @@
 -- Laws of the first n members of an array, each taken through a function, and of a loop that writes an array member by member.
 use Prim.Native.Nat.{ℕ, zero, suc, _≤_, _<_}
 use native.Mathlib.Omega.{arith}
-use mathlib.Core.Path.{_≡_, refl, sym, _∙_, ap}
+use mathlib.Core.Path.{_≡_, refl, sym, _∙_, ap, subst}
 use mathlib.Core.List.{List, [], _∷_, _++_, map}
+use Rattle.model.specs.Lists.{All}
 use lib.ListN.{length, getD, take, drop, set, length-map}
 use lib.Seq.{drop-cons, drop-length, getD-take, length-take-le}
 
@@ -62,6 +63,13 @@ module _ {A B : Type 0} (f : A → B) where
   sweep-end [] (y ∷ z) i h k = absurd (omega arith)
   sweep-end (x ∷ l) [] i h k = absurd (omega arith)
   sweep-end (x ∷ l) (y ∷ z) i h k = rw h (ap (λ (m : List B). f x ∷ m) (sweep-end l z (length l) refl (omega arith)))
+
+-- what holds of each member holds of the one at index i
+pub all-from : {A : Type 0} (P : A → Type 0) (l : List A) (i : ℕ) {x : A} {xs : List A} → All P l → drop i l ≡ x ∷ xs → P x
+all-from P [] zero a e = absurd (let z : _≡_ {A = ℕ} 0 1 = cc in omega arith)
+all-from P [] (suc i) a e = absurd (let z : _≡_ {A = ℕ} 0 1 = cc in omega arith)
+all-from P (y ∷ l) zero {x = x} a e = let f : y ≡ x = cc in subst P f (a .0)
+all-from P (y ∷ l) (suc i) a e = all-from P l i (a .1) e
 
 pub drop-none : {A : Type 0} (l : List A) (i : ℕ) → i ≡ 0 → drop i l ≡ l
 drop-none [] i e = rw e refl

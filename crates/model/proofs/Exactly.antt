@@ -1,5 +1,6 @@
 -- M1 and R1 from their parts; and the jobs as they count.
-use Prim.Native.Nat.{ℕ}
+use Prim.Native.Nat.{ℕ, _≤_}
+use native.Mathlib.Nat.{le-refl}
 use mathlib.Core.Path.{_≡_, refl, ap}
 use mathlib.Core.List.{List, [], _∷_}
 use Rattle.model.specs.Jobs.{Job, greatestDeadline, width, counted}
@@ -18,6 +19,11 @@ plan-is-valid C jobs d h = sufficient C (greatestDeadline jobs) jobs d (deadline
 pub schedule-exactly-if-room : ScheduleExactlyIfRoom
 schedule-exactly-if-room C jobs d =
     ((λ s b _. enough-room C jobs b (necessary C jobs (s .0) (s .1) b)), λ h. (plan C jobs, plan-is-valid C jobs d h))
+
+-- the bound that counts is never above the job's own
+pub width-le : (C bound : ℕ) → width C bound ≤ bound
+unfolding width
+width-le C bound = le-refl bound
 
 counted-same : (C : ℕ) (jobs : List Job) → counted C jobs ≡ jobs
 unfolding counted width

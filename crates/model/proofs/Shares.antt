@@ -12,7 +12,7 @@ use borrow.Author.Tests.{eq-eqb, ne-eqb, eqb-true}
 use Rattle.model.specs.Lists.{All, total, Distinct, upto}
 use Rattle.model.specs.Jobs.{Job, numbers}
 use Rattle.model.specs.Rule.{Share, fresh, next, bump, give, giveTo, handOut, clear, fill, nobody, shareOf, cell}
-use Rattle.model.proofs.Lists.{mem-map, upto-same}
+use Rattle.model.proofs.Lists.{All-mem, mem-map, upto-same}
 use Rattle.model.proofs.Choice.{Open, Choice, choice}
 
 -- the jobs of some shares: no step of the rule changes them
@@ -180,6 +180,13 @@ grown-fill c t n ps d =
   where
     cleared : (p : Share) → Grown t p (clear p)
     cleared p = record { deadline-same = refl; bound-same = refl; parts = omega arith; below = omega arith; late = λ _. refl }
+
+-- so no share has more than its bound
+pub fill-below : (c t : ℕ) (ps : List Share) → Distinct (numbersOf ps) → All (λ p. p .given ≤ p .job .bound) (fill c t ps)
+fill-below c t ps d = All-mem (fill c t ps) below
+  where
+    below : (p : Share) → List·Memᴰ p (fill c t ps) → p .given ≤ p .job .bound
+    below p m = rw (share-of p (rw (numbers-fill c t ps) d) m) at (grown-fill c t (p .job .number) ps d .below)
 
 -- the shares when the slots from t down to 1 are filled
 abbrev pub rest : (ℕ → ℕ) → ℕ → List Share → List Share

@@ -21,13 +21,13 @@ use Rattle.promise.proofs.Sound.{planned-numbers, Passes, planned-disti
 
 -- rows of L numbers each, one after the other
 module _ (L : ℕ) where
-  flat-length : (rs : List (List ℕ)) → All (λ r. length r ≡ L) rs → length (flatten rs) ≡ L * length rs
+  pub flat-length : (rs : List (List ℕ)) → All (λ r. length r ≡ L) rs → length (flatten rs) ≡ L * length rs
   unfolding flatten
   flat-length [] h = omega arith
   flat-length (r ∷ rs) h = omega (arith, length-append r (flatten rs), h .0, flat-length rs (h .1))
 
   -- the number at place s of row i
-  flat-at : (rs : List (List ℕ)) → All (λ r. length r ≡ L) rs → (i s : ℕ) (d : List ℕ) → i < length rs → s < L
+  pub flat-at : (rs : List (List ℕ)) → All (λ r. length r ≡ L) rs → (i s : ℕ) (d : List ℕ) → i < length rs → s < L
       → getD (flatten rs) (L * i + s) 0 ≡ getD (getD rs i d) s 0
   unfolding flatten
   flat-at [] h i s d l k = absurd (omega arith)
@@ -37,11 +37,11 @@ module _ (L : ℕ) where
       ap (λ (m : ℕ). getD (r ++ flatten rs) m 0) (omega (arith, h .0)) ∙ getD-append-add r (flatten rs) (L * i + s) 0
       ∙ flat-at rs (h .1) i s d (omega arith) k
 
-span-length : (f : ℕ → ℕ) (a n : ℕ) → length (span a n f) ≡ n
+pub span-length : (f : ℕ → ℕ) (a n : ℕ) → length (span a n f) ≡ n
 span-length f a zero = refl
 span-length f a (suc n) = ap suc (span-length f (suc a) n)
 
-span-at : (f : ℕ → ℕ) (a n s : ℕ) → s < n → getD (span a n f) s 0 ≡ f (a + s)
+pub span-at : (f : ℕ → ℕ) (a n s : ℕ) → s < n → getD (span a n f) s 0 ≡ f (a + s)
 span-at f a zero s l = absurd (omega arith)
 span-at f a (suc n) zero l = ap f (sym (add-zero a))
 span-at f a (suc n) (suc s) l = span-at f (suc a) n s (omega arith) ∙ ap f (omega arith)

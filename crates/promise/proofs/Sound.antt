@@ -5,9 +5,12 @@ use mathlib.Core.Path.{_≡_, refl, ap}
 use mathlib.Core.Logic.{_≢_, inr}
 use mathlib.Core.List.{List, [], _∷_, _++_}
 use borrow.Author.Tests.{le-ltb}
+use native.Mathlib.Nat.{le-trans}
 use Rattle.model.specs.Lists.{All, Distinct}
 use Rattle.model.specs.Jobs.{Job, numbers, counted}
 use Rattle.model.specs.Boundaries.{leastShort}
+use Rattle.model.proofs.Lists.{All-map}
+use Rattle.model.proofs.Exactly.{width-le}
 use Rattle.promise.specs.Answers.{yes, fitAnswer}
 use Rattle.promise.specs.Rows.{rowAt, rowCount, jobRows, jobsOf, Test, seen, plan-buffer, fit, listFault, rowsTests, listOrder}
 use Rattle.promise.specs.Lists.{planned, Holds, answerOf, planOrder, planAnswer}
@@ -20,10 +23,14 @@ unfolding counted
 counted-numbers C [] = refl
 counted-numbers C (j ∷ jobs) = ap (λ (ns : List ℕ). j .number ∷ ns) (counted-numbers C jobs)
 
-counted-deadlines : (C : ℕ) (jobs : List Job) → All (λ j. j .deadline ≤ 168) jobs → All (λ j. j .deadline ≤ 168) (counted C jobs)
+-- every figure of a job that is in range
+abbrev pub InRange : Job → Type 0
+InRange j = (j .work ≤ 60000) × (j .deadline ≤ 168) × (j .bound ≤ 64)
+
+counted-in-range : (C : ℕ) (jobs : List Job) → All InRange jobs → All InRange (counted C jobs)
 unfolding counted
-counted-deadlines C [] h = tt
-counted-deadlines C (j ∷ jobs) h = (h .0, counted-deadlines C jobs (h .1))
+counted-in-range C [] h = tt
+counted-in-range C (j ∷ jobs) h = ((h .0 .0, h .0 .1, le-trans (width-le C (j .bound)) (h .0 .2)), counted-in-range C jobs (h .1))
 
 pub planned-numbers : (machines : ℕ) (rows : List ℕ) → numbers (planned machines rows) ≡ numbers (jobsOf rows)
 unfolding planned
@@ -44,9 +51,15 @@ module _ (machines : ℕ) (rows : List ℕ) where
   later-pass : (i n : ℕ) → Passes (rowsTests i (suc n)) → Passes (rowsTests (suc i) n)
   later-pass i n h = h .1 .1 .1 .1 .1
 
-  rows-deadlines : (i n : ℕ) → Passes (rowsTests i n) → All (λ j. j .deadline ≤ 168) (jobRows rows i n)
-  rows-deadlines i zero h = tt
-  rows-deadlines i (suc n) h = (deadline-passes i n h, rows-deadlines (suc i) n (later-pass i n h))
+  in-range-passes : (i n : ℕ) → Passes (rowsTests i (suc n)) → InRange (rowAt rows i)
+  in-range-passes i n h =
+      let w : ¬ (60000 < (rowAt rows i) .work) = λ l. h .1 .0 (inr l) in
+      let b : ¬ (64 < (rowAt rows i) .bound) = λ l. h .1 .1 .1 .0 (inr l) in
+      (omega arith, deadline-passes i n h, omega arith)
+
+  rows-in-range : (i n : ℕ) → Passes (rowsTests i n) → All InRange (jobRows rows i n)
+  rows-in-range i zero h = tt
+  rows-in-range i (suc n) h = (in-range-passes i n h, rows-in-range (suc i) n (later-pass i n h))
 
   -- row k's number is none of those of later rows, since none of them was seen before
   not-again : (k i n : ℕ) → k < i → Passes (rowsTests i n) → All (λ m. (rowAt rows k) .number ≢ m) (numbers (jobRows rows i n))
@@ -66,9 +79,20 @@ module _ (machines : ℕ) (rows : List ℕ) where
   unfolding jobsOf
   planned-distinct h = rw (planned-numbers machines rows) (rows-distinct 0 (rowCount rows) (rows-pass h))
 
-  pub planned-deadlines : Passes (listOrder rows) → All (λ j. j .deadline ≤ 168) (planned machines rows)
+  pub planned-in-range : Passes (listOrder rows) → All InRange (planned machines rows)
   unfolding planned jobsOf
-  planned-deadlines h = counted-deadlines machines (jobsOf rows) (rows-deadlines 0 (rowCount rows) (rows-pass h))
+  planned-in-range h = counted-in-range machines (jobsOf rows) (rows-in-range 0 (rowCount rows) (rows-pass h))
+
+  pub planned-deadlines : Passes (listOrder rows) → All (λ j. j .deadline ≤ 168) (planned machines rows)
+  planned-deadlines h = All-map (λ j r. r .1) (planned machines rows) (planned-in-range h)
+
+  pub few-machines : Passes (listOrder rows) → machines ≤ 64
+  unfolding listOrder
+  few-machines h = let m : ¬ (64 < machines) = λ l. h .0 (inr l) in omega arith
+
+  pub few-rows : Passes (listOrder rows) → rowCount rows ≤ 32
+  unfolding listOrder
+  few-rows h = let r = h .1 .1 .0 in omega arith
 
   pub listed-passes : listFault machines rows ≡ yes → Passes (listOrder rows)
   listed-passes e =

@@ -3,7 +3,7 @@ use Prim.Native.Nat.{ℕ, zero, suc, _+_, _*_, _≤_, _<_}
 use native.Mathlib.Nat.{mul-le-mul}
 use native.Mathlib.Decide.{decLt}
 use native.Mathlib.Omega.{arith}
-use mathlib.Core.Path.{_≡_, refl, sym, _∙_, ap, subst}
+use mathlib.Core.Path.{_≡_, refl, sym, _∙_, ap}
 use mathlib.Core.Logic.{inl, inr}
 use mathlib.Core.Bool.{Bool, true, false, cond}
 use mathlib.Core.List.{List, [], _∷_, List·Memᴰ, List·Memᴰ·head, List·Memᴰ·tail}
@@ -21,7 +21,7 @@ use Rattle.model.specs.Boundaries.{Boundary, boundaries, shortage, shortAt, fir
 use Rattle.model.proofs.Lists.{All-map, All-at}
 use Rattle.model.proofs.LeastShort.{boundaries-rise, listed-boundaries, zero-listed, deadline-listed}
 use Rattle.figures.proofs.Signed.{sub-mag}
-use Rattle.figures.proofs.Tables.{first-length, first-from, first-past}
+use Rattle.figures.proofs.Tables.{all-from, first-length, first-from, first-past}
 use Rattle.figures.specs.declared.Job.{Job}
 use Rattle.figures.specs.Jobs.{asJob}
 use Rattle.walk.specs.declared.Jobs.{Jobs}
@@ -49,13 +49,7 @@ module _ (n : ℕ) (list : Jobs) (hn : n ≤ length (list .jobs)) where
   jobs-past = first-past asJob n (list .jobs) hn
 
   pub in-range-at : (i : ℕ) (d : Job) → i < n → Small n list → InRange (asJob (getD (list .jobs) i d))
-  in-range-at i d h s = go (asJobs n list) i s (jobs-from i d h)
-    where
-      go : (l : List Model.Job) (i : ℕ) {j : Model.Job} {js : List Model.Job} → All InRange l → drop i l ≡ j ∷ js → InRange j
-      go [] zero a e = absurd (let z : _≡_ {A = ℕ} 0 1 = cc in omega arith)
-      go [] (suc i) a e = absurd (let z : _≡_ {A = ℕ} 0 1 = cc in omega arith)
-      go (k ∷ l) zero {j = j} a e = let f : k ≡ j = cc in subst InRange f (a .0)
-      go (k ∷ l) (suc i) a e = go l i (a .1) e
+  in-range-at i d h s = all-from InRange (asJobs n list) i s (jobs-from i d h)
 
   -- the forced work of these, and how large it can be
   pub forced-step : (b i : ℕ) (d : Job) → i < n → (sum r : ℕ) → sum ≡ forced (drop (suc i) (asJobs n list)) b → r ≡ forcedOf b (asJob (getD (list .jobs) i d))

@@ -1,49 +1,58 @@
+use Prim.Native.Nat.{_≤_, _-_}
+use native.Mathlib.Omega.{arith}
+use native.Mathlib.Numerals.{add-one}
+use mathlib.Core.Path.{_≡_, refl, _∙_}
+use lib.ListN.{length}
+use Rattle.figures.proofs.Tables.{length-unmapped, swept, sweep-start, sweep-end}
+use Rattle.planner.specs.Writing.{freshOf}
+use Rattle.planner.proofs.Shares.{start-step}
+use borrow.Author.Needs.{needs}
 use Rattle.planner.proofs.start.Statement.{statement}
 use Rattle.planner.proofs.start.Tie as tie
-use Rattle.planner.proofs.start.Reads as reads
-use Rattle.planner.proofs.start.Lts as lts
 
 abbrev Inv-loop : tie.InvT-loop
-Inv-loop list table₀ i₀ table i = ?
+Inv-loop list table₀ i₀ table i = (i ≤ 32) × (table .shares ≡ swept freshOf (list .jobs) (table₀ .shares) i) × (length (table₀ .shares) ≡ 32)
 
 abbrev μ-loop : tie.MeasureT-loop
-μ-loop list table₀ i₀ table i = ?
+μ-loop list table₀ i₀ table i = 32 - i
 
--- src/lib.rt:33:5
+len : (c : tie.Start Inv-loop μ-loop) → length (c .args .t1 .jobs) ≡ 32
+len c = search (needs, length-unmapped)
+
 loop-holds : tie.Need-loop-holds Inv-loop μ-loop
-loop-holds c = ?
+loop-holds c = (omega arith, sweep-start freshOf (c .args .t1 .jobs) _, refl)
 
--- src/lib.rt:34:19
 mul-job : tie.Need-mul-job Inv-loop μ-loop
-mul-job c = ?
+mul-job c = omega arith
 
--- src/lib.rt:34:19
 element-copy-out-job : tie.Need-element-copy-out-job Inv-loop μ-loop
-element-copy-out-job c = ?
+element-copy-out-job c = omega arith
 
--- src/lib.rt:40:9
 mul-p : tie.Need-mul-p Inv-loop μ-loop
-mul-p c = ?
+mul-p c = omega arith
 
--- src/lib.rt:40:9
 element-set-from-p : tie.Need-element-set-from-p Inv-loop μ-loop
-element-set-from-p c = ?
+element-set-from-p c = omega arith
 
--- src/lib.rt:41:9
 add-i : tie.Need-add-i Inv-loop μ-loop
-add-i c = ?
+add-i c = search needs
 
--- src/lib.rt:33:5
 loop-less : tie.Need-loop-less Inv-loop μ-loop
-loop-less c = ?
+loop-less c = search needs
 
--- src/lib.rt:33:5
 loop-again : tie.Need-loop-again Inv-loop μ-loop
-loop-again c = ?
+loop-again c =
+    let s = c .before .before in
+    let l = s .before .args .t1 .jobs in (
+      omega arith,
+      rw (add-one (s .loop .i)) (start-step l _ (s .loop .table .shares) (s .loop .i) _ (omega (arith, len (s .before))) (omega arith) (s .loop .inv .1)),
+      s .loop .inv .2,
+    )
 
--- src/lib.rt:17:1
 returns : tie.Need-returns Inv-loop μ-loop
-returns c = ?
+returns c =
+    let s = c .before in
+    s .loop .inv .1 ∙ sweep-end freshOf (s .before .args .t1 .jobs) _ (s .loop .i) (omega (arith, len (s .before))) (omega arith)
 
 pub start-spec : {M : Type 1} → statement M
 start-spec =
