@@ -1,9 +1,11 @@
 -- The headline statements about the promises, each a proposition with a name. proofs/Theorems.antt has one theorem for each.
-use Prim.Native.Nat.{ℕ, _+_, _*_, _-_, _≤_, _<_}
+use Prim.Native.Nat.{ℕ, _+_, _*_, _-_, _/_, _%_, _≤_, _<_}
 use mathlib.Core.Path.{_≡_}
 use mathlib.Core.Logic.{_≢_, _↔_}
 use mathlib.Core.List.{List, [], _∷_, _++_}
-use lib.IntN.{pos, _-ℤ_}
+use mathlib.Core.Bool.{cond}
+use lib.Dec.{ltb}
+use lib.IntN.{pos, negℤ, _-ℤ_}
 use lib.ListN.{length, getD}
 use Rattle.model.specs.Lists.{All, Perm}
 use Rattle.model.specs.Jobs.{forced}
@@ -15,6 +17,7 @@ use Rattle.promise.specs.declared.RoomAnswer.{RoomAnswer}
 use Rattle.promise.specs.Answers.{yes}
 use Rattle.promise.specs.Order.{GivenBy}
 use Rattle.promise.specs.Rows.{rowAt, rowCount, jobsOf, plan-buffer, listFault, listOrder}
+use Rattle.promise.specs.Window.{wordsOf, windowAnswer, windowBuffer, pack, Packs, roomWindowAnswer, roomPacked, PlanBytesPromise, PlanNumbersPromise, RoomBytesPromise}
 use Rattle.promise.specs.Lists.{planned, Holds, answerOf, planOrder, planAnswer, planBuffer, PlanPromise, roomOrder, roomAnswer, roomFigure, RoomPromise}
 
 -- P1: on a yes the buffer holds the plan by job number, row by row and slot by slot, and what was lent beyond
@@ -85,3 +88,43 @@ PlanPromiseLeavesOne =
 abbrev pub RoomPromiseLeavesOne : Type 0
 RoomPromiseLeavesOne =
     (machines : ℕ) (rows : List ℕ) (b : ℕ) (r r′ : RoomAnswer) → RoomPromise machines rows b r → RoomPromise machines rows b r′ → r ≡ r′
+
+-- P4: every answer of Plan and of Room, at the window too, packs without loss
+abbrev pub AnswersPack : Type 0
+AnswersPack =
+    (machines : ℕ) (rows : List ℕ) (size : ℕ)
+    → Packs (planAnswer machines rows size) × Packs (roomAnswer machines rows size) × Packs (windowAnswer machines rows size) × Packs (roomWindowAnswer machines rows size)
+
+-- P4: no two such answers pack to the same word
+abbrev pub PackingIsOneToOne : Type 0
+PackingIsOneToOne = (a b : Answer) → Packs a → Packs b → pack a ≡ pack b → a ≡ b
+
+-- P4: the room is read back from the upper half of the word: below 2^31 it is that number, else 2^32 less the shortage
+abbrev pub RoomIsReadBack : Type 0
+RoomIsReadBack =
+    (machines : ℕ) (list : List ℕ) (b : ℕ) → roomWindowAnswer machines list b ≡ yes
+    → (roomPacked machines list b % 4294967296 ≡ 0)
+    × (roomFigure machines (wordsOf list) b ≡ cond (ltb (roomPacked machines list b / 4294967296) 2147483648) (pos (roomPacked machines list b / 4294967296)) (negℤ (pos (4294967296 - roomPacked machines list b / 4294967296))))
+
+-- P4: on a yes the bytes at 2 × (168 × i + t − 1) are the machines of row i in slot t, lowest first, and what was lent beyond;
+-- a refusal leaves the bytes, and their length never changes
+pub record BytesPlanned (machines : ℕ) (list lent : List ℕ) : Type 0 where
+  pub low : (i t : ℕ) → i < rowCount (wordsOf list) → 1 ≤ t → t ≤ 168
+      → getD (windowBuffer machines list lent) (2 * (168 * i + t - 1)) 0 ≡ plan machines (planned machines (wordsOf list)) ((rowAt (wordsOf list) i) .number) t % 256
+  pub high : (i t : ℕ) → i < rowCount (wordsOf list) → 1 ≤ t → t ≤ 168
+      → getD (windowBuffer machines list lent) (2 * (168 * i + t - 1) + 1) 0 ≡ plan machines (planned machines (wordsOf list)) ((rowAt (wordsOf list) i) .number) t / 256
+  pub beyond : (k : ℕ) → 336 * rowCount (wordsOf list) ≤ k → getD (windowBuffer machines list lent) k 0 ≡ getD lent k 0
+
+abbrev pub WindowWritesThePlan : Type 0
+WindowWritesThePlan =
+    (machines : ℕ) (list lent : List ℕ)
+    → ((windowAnswer machines list (length lent)) .number ≡ 0 → BytesPlanned machines list lent)
+    × ((windowAnswer machines list (length lent)) .number ≢ 0 → windowBuffer machines list lent ≡ lent)
+    × (length (windowBuffer machines list lent) ≡ length lent)
+
+abbrev pub WindowPromisesLeaveOne : Type 0
+WindowPromisesLeaveOne =
+    (machines : ℕ) (list lent : List ℕ) (word word′ : ℕ) (after after′ : List ℕ)
+    → (PlanBytesPromise machines list lent word after → PlanBytesPromise machines list lent word′ after′ → (word ≡ word′) × (after ≡ after′))
+    × (PlanNumbersPromise machines list lent word after → PlanNumbersPromise machines list lent word′ after′ → (word ≡ word′) × (after ≡ after′))
+    × ((b : ℕ) → RoomBytesPromise machines list b word → RoomBytesPromise machines list b word′ → word ≡ word′)
