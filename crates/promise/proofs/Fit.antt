@@ -18,7 +18,7 @@ use Rattle.promise.specs.Answers.{fitAnswer}
 use Rattle.promise.specs.Rows.{jobsOf, plan-buffer, listFault, listOrder}
 use Rattle.promise.specs.Lists.{planned, Holds, answerOf}
 use Rattle.promise.specs.Claims.{SevenIsTrue, PlanSevenIsTrue}
-use Rattle.promise.proofs.Given.{All-front, All-back, none-holds}
+use Rattle.promise.proofs.Ladder.{All-front, All-back, none-holds}
 use Rattle.promise.proofs.Table.{gives-list}
 use Rattle.promise.proofs.Sound.{planned-distinct, answers-fit}
 

@@ -1,4 +1,4 @@
-pub mod Given
+pub mod Ladder
 pub mod Table
 pub mod Sound
 pub mod Buffer

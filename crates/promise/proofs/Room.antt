@@ -6,7 +6,7 @@ use Rattle.model.specs.Jobs.{room}
 use Rattle.promise.specs.Answers.{yes}
 use Rattle.promise.specs.Lists.{Holds, answerOf, roomOrder, roomAnswer, roomFigure}
 use Rattle.promise.specs.Claims.{RoomFigureIsTheRoom}
-use Rattle.promise.proofs.Given.{same-number, zero-yes}
+use Rattle.promise.proofs.Ladder.{same-number, zero-yes}
 use Rattle.promise.proofs.Table.{refuses, gives-room}
 
 pub room-figure-is-the-room : RoomFigureIsTheRoom

@@ -13,7 +13,7 @@ use Rattle.promise.specs.Answers.{fitAnswer}
 use Rattle.promise.specs.Rows.{rowAt, jobsOf}
 use Rattle.promise.specs.Lists.{planned, planAnswer}
 use Rattle.promise.specs.Claims.{RowOrderPlaysNoPart}
-use Rattle.promise.proofs.Given.{same-number}
+use Rattle.promise.proofs.Ladder.{same-number}
 use Rattle.promise.proofs.Sound.{planned-distinct, listed-passes, answers-fit}
 use Rattle.promise.proofs.Buffer.{yes-writes-the-plan}
 

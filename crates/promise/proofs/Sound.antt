@@ -14,7 +14,7 @@ use Rattle.model.proofs.Exactly.{width-le}
 use Rattle.promise.specs.Answers.{yes, fitAnswer}
 use Rattle.promise.specs.Rows.{rowAt, rowCount, jobRows, jobsOf, Test, seen, plan-buffer, fit, listFault, rowsTests, listOrder}
 use Rattle.promise.specs.Lists.{planned, Holds, answerOf, planOrder, planAnswer}
-use Rattle.promise.proofs.Given.{same-number, All-front, All-back, zero-none}
+use Rattle.promise.proofs.Ladder.{same-number, All-front, All-back, zero-none}
 use Rattle.promise.proofs.Table.{refuses, gives-list, gives-plan}
 
 -- a job as it counts keeps its number and its deadline

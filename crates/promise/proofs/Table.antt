@@ -16,7 +16,7 @@ use Rattle.promise.specs.Answers.{refusal, fault, first, fitAnswer}
 use Rattle.promise.specs.Rows.{rowAt, rowCount, listWindow, Field, the-number, the-work, the-deadline, the-bound, fieldOf, least, greatest, Test, machine-count, list-length, row-count, field, seen, plan-buffer, fit, boundary, fieldFault, fieldsFault, seenBefore, seenFault, rowsFault, countFault, lengthFault, manyFault, listFault, rowTests, rowsTests, listOrder}
 use Rattle.promise.specs.Lists.{planned, Holds, answerOf, planOrder, planAnswer, roomOrder, roomAnswer}
 use Rattle.promise.specs.Claims.{PlanAnswersByTheTable, RoomAnswersByTheTable}
-use Rattle.promise.proofs.Given.{Tells, fails, tells-lt, tells-eq, tells-or, tells-not, tells-same, Ladder, one, append, given}
+use Rattle.promise.proofs.Ladder.{Tells, fails, tells-lt, tells-eq, tells-or, tells-not, tells-same, Ladder, one, append, given}
 
 some-none : (s : Short) → some s ≡ none → ⊥
 some-none s e = let z : _≡_ {A = ℕ} 0 1 = cc in omega arith

@@ -3,4 +3,8 @@ pub mod Order
 pub mod Rows
 pub mod Lists
 pub mod Window
+pub mod Desk
+pub mod DeskCalls
+pub mod History
+pub mod DeskClaims
 pub mod Claims

@@ -12,3 +12,53 @@ pub struct RoomAnswer {
     pub answer: Answer,
     pub room: i32,
 }
+
+// A held job, in its seat of the desk's table.
+pub struct Held {
+    pub number: u32,
+    pub work: u32,
+    pub left: u32,
+    pub deadline: u32,
+    pub bound: u32,
+    pub slots: u32,
+}
+
+pub struct Desk {
+    pub machines: u32,
+    pub clock: u32,
+    pub seats: [Held; 32],
+}
+
+// What Open and Admit answer: the desk beside the answer.
+pub struct Desked {
+    pub answer: Answer,
+    pub desk: Desk,
+}
+
+// What Withdraw answers: the remaining work of the job that left.
+pub struct Withdrawn {
+    pub answer: Answer,
+    pub left: u32,
+    pub desk: Desk,
+}
+
+pub struct Looked {
+    pub answer: Answer,
+    pub left: u32,
+    pub deadline: u32,
+    pub bound: u32,
+    pub leeway: u32,
+    pub desk: Desk,
+}
+
+// The machines given to a job number in a slot.
+pub struct Given {
+    pub number: u32,
+    pub machines: u32,
+}
+
+pub struct Ran {
+    pub answer: Answer,
+    pub given: [Given; 32],
+    pub desk: Desk,
+}

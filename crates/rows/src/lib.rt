@@ -66,7 +66,7 @@ pub fn fields_fault(place: u32, j: Job, from: u32, to: u32) -> Answer
 
 // Row i of the list.
 pub fn row(rows: &[u32], i: usize) -> Job
-    requires { ⌜ (i < 1152921504606846976) × (4 * i + 3 < length (now rows)) ⌝ }
+    requires { ⌜ (i < 32) × (4 * i + 3 < length (now rows)) ⌝ }
     ensures { λ r. ⌜ asJob r ≡ rowAt (now (rows .entry)) i ⌝ }
 {
     let at = 4 * i;
@@ -80,7 +80,7 @@ pub fn row(rows: &[u32], i: usize) -> Job
 
 // The number stands in one of the rows before row i.
 pub fn seen(rows: &[u32], number: u32, i: usize) -> bool
-    requires { ⌜ (i < 1152921504606846976) × (4 * i ≤ length (now rows)) ⌝ }
+    requires { ⌜ (i < 32) × (4 * i ≤ length (now rows)) ⌝ }
     ensures { λ r. ⌜ r ≡ seenBefore (now (rows .entry)) number i ⌝ }
 {
     let mut k = i;

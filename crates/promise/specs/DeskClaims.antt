@@ -1,0 +1,120 @@
+-- The headline statements about the desk, each a proposition with a name.
+use Prim.Native.Nat.{ℕ, _+_, _-_, _≤_, _<_}
+use mathlib.Core.Path.{_≡_}
+use mathlib.Core.Logic.{_≢_, _⊎_, _↔_}
+use mathlib.Core.Bool.{true}
+use mathlib.Core.List.{List, [], _∷_, _++_, map, List·Memᴰ}
+use lib.ListN.{length, getD, replicate}
+use Rattle.model.specs.Lists.{All, total}
+use Rattle.model.specs.Jobs.{Job}
+use Rattle.model.specs.Boundaries.{LeastShort}
+use Rattle.model.specs.Schedules.{Possible}
+use Rattle.model.specs.Rule.{plan}
+use Rattle.promise.specs.declared.Answer.{Answer}
+use Rattle.promise.specs.declared.Held.{Held}
+use Rattle.promise.specs.declared.Desk.{Desk}
+use Rattle.promise.specs.declared.Given.{Given}
+use Rattle.promise.specs.Answers.{yes, refusal}
+use Rattle.promise.specs.Order.{GivenBy}
+use Rattle.promise.specs.Rows.{Field}
+use Rattle.promise.specs.Desk.{heldOf, deskOf, asPlanned, toPlan, jobsFor, Sound}
+use Rattle.promise.specs.DeskCalls.{isSound, openOf, withNew, admitAnswer, admitOf, findAnswer, withdrawOf, lookOf, runAnswer, runOf, lowered, DeskTest, not-sound, asked, held-already, full, DeskHolds, deskAnswerOf, admitOrder, findOrder, runOrder}
+use Rattle.promise.specs.History.{Call, Event, answerOf, historyOf, deskAfter, roomOpened, Promised, Ledger, answeredFor, ledgerAfter, toFinish}
+
+-- a record has 32 seats
+abbrev pub Seated : Desk → Type 0
+Seated desk = length (desk .seats) ≡ 32
+
+-- S1: the test agrees with soundness on every record
+abbrev pub SoundIsTested : Type 0
+SoundIsTested = (desk : Desk) → Seated desk → (isSound desk ≡ true) ↔ Sound desk
+
+-- S2: each number exactly when its row holds and no earlier one in the order does
+abbrev pub DeskAnswersByTheTable : Type 0
+DeskAnswersByTheTable =
+    (desk : Desk) (j : Job) (n : ℕ) → Seated desk
+    → GivenBy (DeskHolds desk j) (deskAnswerOf desk j) admitOrder (admitAnswer desk j)
+    × GivenBy (DeskHolds desk j) (deskAnswerOf desk j) (findOrder n) (findAnswer desk n)
+    × GivenBy (DeskHolds desk j) (deskAnswerOf desk j) runOrder (runAnswer desk)
+
+-- S3: Open returns a sound desk for every count, and every call on a sound desk returns a sound one
+pub record StaysSound (desk : Desk) : Type 0 where
+  pub admit : (j : Job) → Sound ((admitOf desk j) .desk)
+  pub withdraw : (n : ℕ) → Sound ((withdrawOf desk n) .desk)
+  pub look : (n : ℕ) → Sound ((lookOf desk n) .desk)
+  pub run : Sound ((runOf desk) .desk)
+
+abbrev pub SoundnessIsKept : Type 0
+SoundnessIsKept = ((machines : ℕ) → Sound ((openOf machines) .desk)) × ((desk : Desk) → Sound desk → StaysSound desk)
+
+-- S3: a refused call returns the desk as it came
+pub record HandsBack (desk : Desk) : Type 0 where
+  pub admit : (j : Job) → ((admitOf desk j) .answer) .number ≢ 0 → (admitOf desk j) .desk ≡ desk
+  pub withdraw : (n : ℕ) → ((withdrawOf desk n) .answer) .number ≢ 0 → (withdrawOf desk n) .desk ≡ desk
+  pub look : (n : ℕ) → (lookOf desk n) .desk ≡ desk
+  pub run : ((runOf desk) .answer) .number ≢ 0 → (runOf desk) .desk ≡ desk
+
+abbrev pub RefusalHandsTheDeskBack : Type 0
+RefusalHandsTheDeskBack = (desk : Desk) → HandsBack desk
+
+-- S4: Admit is exact
+pub record AdmitIsExact (desk : Desk) (j : Job) : Type 0 where
+  pub exactly : ((admitAnswer desk j) .number ≡ 7) ↔ (¬ Possible (desk .machines) (map (asPlanned (desk .clock)) (withNew desk j)))
+  pub names : (admitAnswer desk j) .number ≡ 7
+      → (b : ℕ) × ((admitAnswer desk j) .place ≡ desk .clock + b)
+      × LeastShort (desk .machines) (toPlan (desk .machines) (desk .clock) (withNew desk j)) (record { place = b; amount = (admitAnswer desk j) .amount })
+
+abbrev pub AdmitSevenIsTrue : Type 0
+AdmitSevenIsTrue =
+    (desk : Desk) (j : Job) → Sound desk → ((f : Field) → ¬ DeskHolds desk j (asked f)) → ¬ DeskHolds desk j held-already → ¬ DeskHolds desk j full
+    → AdmitIsExact desk j
+
+-- S5: Run gives out slot 1 of the plan, within room and bounds, and lowers the works by just that
+pub record GivesOut (desk : Desk) : Type 0 where
+  pub pairs : (runOf desk) .given
+      ≡ map (λ h. record { number = h .number; machines = plan (desk .machines) (jobsFor desk) (h .number) 1 }) (heldOf desk)
+      ++ replicate (32 - length (heldOf desk)) (record { number = 0; machines = 0 })
+  pub room : total (λ g. g .machines) ((runOf desk) .given) ≤ desk .machines
+  pub bounds : All (λ h. plan (desk .machines) (jobsFor desk) (h .number) 1 ≤ h .bound) (heldOf desk)
+  pub clock : ((runOf desk) .desk) .clock ≡ desk .clock + 1
+  pub machines : ((runOf desk) .desk) .machines ≡ desk .machines
+  -- exactly the seats with work left, each lowered by exactly what was answered and all else as before
+  pub stay : (h : Held) → List·Memᴰ h (heldOf desk) → plan (desk .machines) (jobsFor desk) (h .number) 1 < h .left
+      → List·Memᴰ (lowered (plan (desk .machines) (jobsFor desk) (h .number) 1) h) (heldOf ((runOf desk) .desk))
+  pub only : (g : Held) → List·Memᴰ g (heldOf ((runOf desk) .desk))
+      → (h : Held) × List·Memᴰ h (heldOf desk) × (plan (desk .machines) (jobsFor desk) (h .number) 1 < h .left)
+      × (g ≡ lowered (plan (desk .machines) (jobsFor desk) (h .number) 1) h)
+
+abbrev pub RunGivesOutThePlan : Type 0
+RunGivesOutThePlan = (desk : Desk) → Sound desk → (runAnswer desk) .number ≡ 0 → GivesOut desk
+
+-- H, demand 3: the history of any calls from any Open, as its ledger has it, and any one call more
+pub record PromiseKept (machines : ℕ) (calls : List Call) : Type 0 where
+  -- (b) never more than its work
+  pub within : All (λ p. p .had ≤ p .job .work) ((ledgerAfter machines calls) .inForce)
+  -- (c) once its due slot has run it has had exactly its work
+  pub in-time : All (λ p. p .job .deadline ≤ (ledgerAfter machines calls) .clock → p .had ≡ p .job .work) ((ledgerAfter machines calls) .inForce)
+  -- (c) and also if its number is admitted again before that
+  pub before-again : (j : Job) → ((admitOf (deskAfter machines calls) j) .answer) .number ≡ 0
+      → All (λ p. p .job .number ≡ j .number → p .had ≡ p .job .work) ((ledgerAfter machines calls) .inForce)
+  -- (a) never above its bound in a Run, (b) nothing from a Run at or past its due slot, (a) each Run within the room
+  pub bounds : All (λ p. answeredFor (p .job .number) ((runOf (deskAfter machines calls)) .given) ≤ p .job .bound) ((ledgerAfter machines calls) .inForce)
+  pub late : All (λ p. p .job .deadline ≤ (ledgerAfter machines calls) .clock → answeredFor (p .job .number) ((runOf (deskAfter machines calls)) .given) ≡ 0)
+      ((ledgerAfter machines calls) .inForce)
+  pub room : total (λ g. g .machines) ((runOf (deskAfter machines calls)) .given) ≤ roomOpened machines
+  -- (d) no call answers 12
+  pub sound : All (λ e. (answerOf e) .number ≢ 12) (historyOf machines calls)
+  -- (e) an Admit answered 0 or 7 is answered 7 exactly if nothing could finish it with the admissions in force
+  pub exact : (j : Job) → (((admitOf (deskAfter machines calls) j) .answer) .number ≡ 0) ⊎ (((admitOf (deskAfter machines calls) j) .answer) .number ≡ 7)
+      → (((admitOf (deskAfter machines calls) j) .answer) .number ≡ 7) ↔ (¬ Possible (roomOpened machines) (toFinish (ledgerAfter machines calls) j))
+  -- (f) Look and Withdraw find just the admissions in force with work left, and answer that work
+  pub found : (n : ℕ) → (((lookOf (deskAfter machines calls) n) .answer) .number ≡ 0)
+      ↔ ((p : Promised) × List·Memᴰ p ((ledgerAfter machines calls) .inForce) × (p .job .number ≡ n) × (p .had < p .job .work))
+  pub left : (p : Promised) → List·Memᴰ p ((ledgerAfter machines calls) .inForce) → p .had < p .job .work
+      → ((lookOf (deskAfter machines calls) (p .job .number)) .left ≡ p .job .work - p .had)
+      × ((withdrawOf (deskAfter machines calls) (p .job .number)) .left ≡ p .job .work - p .had)
+  -- (g) below clock 100,000 Run answers 0, so every due slot is reached
+  pub runs : (ledgerAfter machines calls) .clock < 100000 → (runOf (deskAfter machines calls)) .answer ≡ yes
+
+abbrev pub DemandThree : Type 0
+DemandThree = (machines : ℕ) (calls : List Call) → PromiseKept machines calls

@@ -1,0 +1,123 @@
+/* The planner of the run desk for C and C++: does a list of jobs fit, and which machines run what.
+ *
+ * THE ROOM. A room has C equal machines, 1 to 64. Time is in slots, counted from 1. A list is 0 to
+ * 32 rows, counted from 0, and each row is a job of four numbers:
+ *
+ *   field 1  number    1 to 65535, another one in every row
+ *   field 2  work      1 to 60000 machine-slots
+ *   field 3  deadline  1 to 168, the last slot that the job may use
+ *   field 4  bound     1 to 64, the most machines in one slot; it may exceed C
+ *
+ * A list fits if every job can be given a whole number of machines in each slot, 0 to its bound up
+ * to its deadline and 0 after it, that add up to exactly its work, with no slot above C.
+ *
+ * THE PLAN of a list that fits is one such schedule, always the same. Slots are filled from the
+ * greatest deadline down to 1, and in a slot the machines are handed out one at a time. Each goes
+ * to the job with the greatest run length (what remains of its work / bound, rounded up) among the
+ * jobs with a deadline at or after this slot, work remaining, and fewer machines in this slot than
+ * their bound; equal run lengths go to the smaller job number. The order of the rows plays no part.
+ *
+ * THE ROOM AT A BOUNDARY b is the signed number
+ *
+ *   C * b - the sum over all jobs of max(0, work - bound * max(0, deadline - b)).
+ *
+ * Below zero it is a shortage. The boundaries of a list are 0 and each deadline in it. A list fits
+ * exactly if none of them is short.
+ *
+ * ANSWERS. Each call returns number + 256 * place + 2^32 * amount. Number 0 is a yes. Any other
+ * number is a refusal, and then nothing has been written:
+ *
+ *   no.  given when                                     place                 amount
+ *    1   machines is not 1 to 64                        0                     0
+ *    2   the list is not a whole number of rows         0                     0
+ *    3   the list has more than 32 rows                 0                     0
+ *    4   a field is out of range                        its row               the field, 1 to 4
+ *    5   the job number stands in an earlier row, too   the later row         0
+ *    6   the plan buffer is too short                   0                     0
+ *    7   the list does not fit                          least short boundary  its shortage
+ *    9   the boundary is over 168                       0                     0
+ *
+ * The first that holds is given, in this order. Both plan calls: 1, 2, 3, then row by row from row
+ * 0 (fields 1 to 4, then 5), then 6, then 7. Room: 1, 2, 3, the rows in the same way, then 9.
+ *
+ * WHAT A CALLER OWES. Each pointer is valid for the length beside it, aligned for its type, and
+ * not null, even where the length is 0. List and plan do not overlap, and no other thread writes
+ * to them during the call. Everything else is tested: any numbers and any lengths get an answer.
+ * The calls keep nothing between them, so several threads may call at once, each with its own plan
+ * buffer.
+ */
+#ifndef VEZHDANUR_WINDOW_H
+#define VEZHDANUR_WINDOW_H
+
+#include <stddef.h>
+#include <stdint.h>
+
+#ifdef __cplusplus
+extern "C" {
+#endif
+
+#define VEZHDANUR_SLOTS 168          /* the greatest deadline, and the numbers of a plan's row */
+#define VEZHDANUR_JOBS 32            /* the most rows of a list */
+#define VEZHDANUR_LIST_ROW_BYTES 16  /* the bytes of a list's row */
+#define VEZHDANUR_PLAN_ROW_BYTES 336 /* the bytes of a plan's row */
+
+/* Plans a list given as bytes. Both lengths count bytes, and both buffers may have any alignment.
+ *
+ * Field f of row i is the four bytes of `list` from 16 * i + 4 * (f - 1) on, lowest byte first.
+ * A list_len that is no multiple of 16 is a 2; list_len / 16 is the number of rows n.
+ *
+ * A yes is 0 as a whole and writes 336 * n bytes, zeros included: the machines of row i in slot t
+ * are the two bytes of `plan` from 2 * (168 * i + t - 1) on, lowest byte first. Bytes after these
+ * stay as they were. A plan_len below 336 * n is a 6. An empty list is a yes and writes nothing. */
+uint64_t vezhdanur_plan(uint32_t machines, const uint8_t *list, size_t list_len,
+                        uint8_t *plan, size_t plan_len);
+
+/* The same planner on numbers. Both lengths count numbers, not bytes.
+ *
+ * Field f of row i is rows[4 * i + f - 1]. A rows_len that is no multiple of 4 is a 2; rows_len / 4
+ * is n. A yes writes 168 * n numbers: the machines of row i in slot t are plan[168 * i + t - 1].
+ * Numbers after these stay as they were. A plan_len below 168 * n is a 6. */
+uint64_t vezhdanur_plan_numbers(uint32_t machines, const uint32_t *rows, size_t rows_len,
+                                uint16_t *plan, size_t plan_len);
+
+/* The room of a list (bytes, as in vezhdanur_plan) at any boundary from 0 to 168; it need not be
+ * a deadline of the list. A negative room is a yes, too.
+ *
+ * A yes has 0 in its low half and the room in its upper half, as a 32-bit two's complement number.
+ * Test vezhdanur_answer_number and not the whole answer; vezhdanur_answer_room takes the room. */
+uint64_t vezhdanur_room(uint32_t machines, const uint8_t *list, size_t list_len,
+                        uint32_t boundary);
+
+/* The number of an answer: 0 for a yes, else the refusal. */
+static inline uint32_t vezhdanur_answer_number(uint64_t answer)
+{
+    return (uint32_t)(answer & 0xff);
+}
+
+/* The place of an answer. */
+static inline uint32_t vezhdanur_answer_place(uint64_t answer)
+{
+    return (uint32_t)(answer >> 8 & 0xffffff);
+}
+
+/* The amount of an answer of a plan call, or of any refusal. */
+static inline uint32_t vezhdanur_answer_amount(uint64_t answer)
+{
+    return (uint32_t)(answer >> 32);
+}
+
+/* The room in an answer of vezhdanur_room; 0 in a refusal. */
+static inline int32_t vezhdanur_answer_room(uint64_t answer)
+{
+    uint32_t half = (uint32_t)(answer >> 32);
+
+    if (vezhdanur_answer_number(answer) != 0)
+        return 0;
+    return half <= INT32_MAX ? (int32_t)half : -(int32_t)(UINT32_MAX - half) - 1;
+}
+
+#ifdef __cplusplus
+}
+#endif
+
+#endif
