@@ -1,7 +1,10 @@
 // The planner: Room and Plan over a lent list, and the plan written row by row, slot by slot.
 use figures::Job;
+use promise::Answer;
+use promise::RoomAnswer;
 use rule::Share;
 use rule::Table;
+use walk::Fit;
 use walk::Jobs;
 ghost use mathlib.Core.Path.{_≡_};
 ghost use mathlib.Core.List.{map};
@@ -9,8 +12,9 @@ ghost use Prim.Native.Nat.{_*_, _≤_, _<_};
 ghost use lib.ListN.{length, set};
 ghost use Rattle.model.specs.Rule.{planRows};
 ghost use Rattle.rule.specs.Shares.{sharesOf};
-ghost use Rattle.walk.specs.Walk.{asJobs};
-ghost use Rattle.promise.specs.Lists.{written};
+ghost use Rattle.walk.specs.Walk.{asJobs, asShort};
+ghost use Rattle.promise.specs.Answers.{fitAnswer};
+ghost use Rattle.promise.specs.Lists.{written, PlanPromise, RoomPromise};
 ghost use Rattle.planner.specs.Writing.{freshOf, columnOf, Slim, Plannable};
 
 // The shares before any slot is filled.
@@ -75,4 +79,60 @@ pub fn write_plan(list: Jobs, n: usize, machines: u32, plan: &mut [u16])
         write_slot(table, n, t, &mut *plan);
         t -= 1;
     }
+}
+
+// A 7 if the walk came to a short boundary.
+pub fn fit_answer(fit: Fit) -> Answer
+    ensures { λ r. ⌜ r ≡ fitAnswer (asShort fit) ⌝ }
+{
+    match fit {
+        Fit::Fits => rows::accept(),
+        Fit::Short(place, amount) => rows::refuse(7, place, amount),
+    }
+}
+
+// Plan: the answer, and on a yes the plan of the rule in the lent buffer.
+pub fn plan(machines: u32, list: &[u32], plan: &mut [u16]) -> Answer
+    ensures { λ r. ⌜ PlanPromise machines (now (list .entry)) (now (plan .entry)) r (now (plan .exit)) ⌝ }
+{
+    let fault = rows::list_fault(machines, list);
+    if fault.number != 0 {
+        return fault;
+    }
+    let n = list.len() / 4;
+    if plan.len() < 168 * n {
+        return rows::refuse(6, 0, 0);
+    }
+    let jobs = rows::load(list, machines);
+    let fit = fit_answer(walk::walk(jobs, n, machines));
+    if fit.number != 0 {
+        return fit;
+    }
+    write_plan(jobs, n, machines, plan);
+    rows::accept()
+}
+
+// Room at any b from 0 to 168.
+pub fn room(machines: u32, list: &[u32], b: u32) -> RoomAnswer
+    ensures { λ r. ⌜ RoomPromise machines (now (list .entry)) b r ⌝ }
+{
+    let fault = rows::list_fault(machines, list);
+    if fault.number != 0 {
+        return RoomAnswer {
+            answer: fault,
+            room: 0,
+        };
+    }
+    if 168 < b {
+        let over = rows::refuse(9, 0, 0);
+        return RoomAnswer {
+            answer: over,
+            room: 0,
+        };
+    }
+    let n = list.len() / 4;
+    let jobs = rows::load(list, machines);
+    let room = figures::room_of(machines * b, walk::forced_by(jobs, n, b));
+    let answer = rows::accept();
+    RoomAnswer { answer, room }
 }
