@@ -37,6 +37,17 @@ module _ (L : ℕ) where
       ap (λ (m : ℕ). getD (r ++ flatten rs) m 0) (omega (arith, h .0)) ∙ getD-append-add r (flatten rs) (L * i + s) 0
       ∙ flat-at rs (h .1) i s d (omega arith) k
 
+-- n numbers put in place of the first n of a buffer: those beyond stay, and so does the length
+module _ (front lent : List ℕ) (n : ℕ) (long : length front ≡ n) where
+  pub beyond-front : (k : ℕ) → n ≤ k → getD (front ++ drop n lent) k 0 ≡ getD lent k 0
+  beyond-front k l =
+      ap (λ (m : ℕ). getD (front ++ drop n lent) m 0) (omega arith) ∙ getD-append-add front (drop n lent) (k - n) 0
+      ∙ getD-drop n lent (k - n) 0
+      ∙ ap (λ (m : ℕ). getD lent m 0) (omega arith)
+
+  pub front-keeps-length : n ≤ length lent → length (front ++ drop n lent) ≡ length lent
+  front-keeps-length l = omega (arith, length-append front (drop n lent), length-drop n lent)
+
 pub span-length : (f : ℕ → ℕ) (a n : ℕ) → length (span a n f) ≡ n
 span-length f a zero = refl
 span-length f a (suc n) = ap suc (span-length f (suc a) n)
@@ -54,6 +65,10 @@ numbers-at : (rows : List ℕ) (i n k : ℕ) → k < n → getD (numbers (jobRow
 numbers-at rows i zero k l = absurd (omega arith)
 numbers-at rows i (suc n) zero l = ap (λ (m : ℕ). (rowAt rows m) .number) (sym (add-zero i))
 numbers-at rows i (suc n) (suc k) l = numbers-at rows (suc i) n k (omega arith) ∙ ap (λ (m : ℕ). (rowAt rows m) .number) (omega arith)
+
+-- the plan, its rows one after the other
+abbrev pub flatPlan : ℕ → List ℕ → List ℕ
+flatPlan machines rows = flatten (planRows machines (planned machines rows))
 
 module _ (machines : ℕ) (rows : List ℕ) where
   -- the row of job number n
@@ -91,39 +106,41 @@ module _ (machines : ℕ) (rows : List ℕ) where
       rows-are-the-plan machines (planned machines rows) (planned-distinct machines rows h) (planned-deadlines machines rows h)
       ∙ sym (map-map (λ j. j .number) row (planned machines rows)) ∙ ap (map row) (planned-numbers machines rows)
 
+  module _ (h : Passes machines rows (listOrder rows)) where
+    pub plan-length : length (flatPlan machines rows) ≡ 168 * rowCount rows
+    plan-length = rw (planned-rows h) front-length
+
+    pub plan-cell : (i t : ℕ) → i < rowCount rows → 1 ≤ t → t ≤ 168
+        → getD (flatPlan machines rows) (168 * i + t - 1) 0 ≡ plan machines (planned machines rows) ((rowAt rows i) .number) t
+    unfolding row
+    plan-cell i t l a b =
+        let s : ℕ = t - 1 in
+        ap₂ (λ (rs : List (List ℕ)) (m : ℕ). getD (flatten rs) m 0) (planned-rows h) (omega arith)
+        ∙ flat-at 168 all-rows all-long i s (row 0) (omega (arith, row-count-same)) (omega arith)
+        ∙ ap (λ (r : List ℕ). getD r s 0) (row-of i l)
+        ∙ span-at (plan machines (planned machines rows) ((rowAt rows i) .number)) 1 168 s (omega arith)
+        ∙ ap (plan machines (planned machines rows) ((rowAt rows i) .number)) (omega arith)
+
   module _ (lent : List ℕ) where
     module _ (e : (planAnswer machines rows (length lent)) .number ≡ 0) where
-      on-yes : planBuffer machines rows lent ≡ flatten all-rows ++ drop (168 * rowCount rows) lent
+      on-yes : planBuffer machines rows lent ≡ flatPlan machines rows ++ drop (168 * rowCount rows) lent
       unfolding planBuffer written
-      on-yes =
-          rw (eq-eqb ((planAnswer machines rows (length lent)) .number) 0 e)
-          (ap (λ (rs : List (List ℕ)). flatten rs ++ drop (168 * rowCount rows) lent) (planned-rows (yes-passes machines rows (length lent) e)))
+      on-yes = rw (eq-eqb ((planAnswer machines rows (length lent)) .number) 0 e)
+
+      front-long : length (flatPlan machines rows) ≡ 168 * rowCount rows
+      front-long = plan-length (yes-passes machines rows (length lent) e)
 
       yes-cell : (i t : ℕ) → i < rowCount rows → 1 ≤ t → t ≤ 168
           → getD (planBuffer machines rows lent) (168 * i + t - 1) 0 ≡ plan machines (planned machines rows) ((rowAt rows i) .number) t
-      unfolding row
       yes-cell i t l a b =
-          let s : ℕ = t - 1 in
-          ap₂ (λ (buffer : List ℕ) (m : ℕ). getD buffer m 0) on-yes (omega arith)
-          ∙ List·getD-append (flatten all-rows) (drop (168 * rowCount rows) lent) 0 (168 * i + s) (omega (arith, front-length))
-          ∙ flat-at 168 all-rows all-long i s (row 0) (omega (arith, row-count-same)) (omega arith)
-          ∙ ap (λ (r : List ℕ). getD r s 0) (row-of i l)
-          ∙ span-at (plan machines (planned machines rows) ((rowAt rows i) .number)) 1 168 s (omega arith)
-          ∙ ap (plan machines (planned machines rows) ((rowAt rows i) .number)) (omega arith)
+          rw on-yes (List·getD-append (flatPlan machines rows) (drop (168 * rowCount rows) lent) 0 (168 * i + t - 1) (omega (arith, front-long)))
+          ∙ plan-cell (yes-passes machines rows (length lent) e) i t l a b
 
       yes-beyond : (k : ℕ) → 168 * rowCount rows ≤ k → getD (planBuffer machines rows lent) k 0 ≡ getD lent k 0
-      yes-beyond k l =
-          let n : ℕ = 168 * rowCount rows in
-          ap₂ (λ (buffer : List ℕ) (m : ℕ). getD buffer m 0) on-yes (omega (arith, front-length))
-          ∙ getD-append-add (flatten all-rows) (drop n lent) (k - n) 0
-          ∙ getD-drop n lent (k - n) 0
-          ∙ ap (λ (m : ℕ). getD lent m 0) (omega arith)
+      yes-beyond k l = rw on-yes (beyond-front (flatPlan machines rows) lent (168 * rowCount rows) front-long k l)
 
       yes-length : length (planBuffer machines rows lent) ≡ length lent
-      yes-length =
-          let n : ℕ = 168 * rowCount rows in
-          ap length on-yes ∙ length-append (flatten all-rows) (drop n lent)
-          ∙ omega (arith, front-length, length-drop n lent, yes-long machines rows (length lent) e)
+      yes-length = rw on-yes (front-keeps-length (flatPlan machines rows) lent (168 * rowCount rows) front-long (yes-long machines rows (length lent) e))
 
     on-refusal : (planAnswer machines rows (length lent)) .number ≢ 0 → planBuffer machines rows lent ≡ lent
     unfolding planBuffer

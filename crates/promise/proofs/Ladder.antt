@@ -3,7 +3,7 @@ use Prim.Native.Nat.{ℕ, _<_}
 use native.Mathlib.Omega.{arith}
 use mathlib.Core.Path.{_≡_, refl, sym, _∙_, ap}
 use mathlib.Core.Logic.{_≢_, _⊎_, inl, inr, _↔_}
-use mathlib.Core.Bool.{Bool, true, false, not, _||_}
+use mathlib.Core.Bool.{Bool, true, false, cond, not, _||_}
 use mathlib.Core.List.{List, [], _∷_, _++_}
 use lib.Dec.{ltb, eqb}
 use borrow.Author.Tests.{ltb-true, ltb-false, eqb-true, eqb-false, ne-eqb}
@@ -50,6 +50,14 @@ tells-same s (fails h) = fails (λ q. h (s .1 q))
 
 pub same-number : {a b : Answer} → a ≡ b → a .number ≡ b .number
 same-number e = ap (λ (a : Answer). a .number) e
+
+-- no refusal of two is no refusal of the second
+pub first-zero : (a b : Answer) → (first a b) .number ≡ 0 → b .number ≡ 0
+first-zero a b = go (eqb (a .number) 0) refl
+  where
+    go : (t : Bool) → eqb (a .number) 0 ≡ t → (cond t b a) .number ≡ 0 → b .number ≡ 0
+    go true e z = z
+    go false e z = absurd (eqb-false (a .number) 0 e z)
 
 module _ {A : Type 0} (P : A → Type 0) where
   pub All-front : (xs ys : List A) → All P (xs ++ ys) → All P xs

@@ -6,4 +6,9 @@ pub mod Fit
 pub mod Room
 pub mod RowOrder
 pub mod Unique
+pub mod Bounds
+pub mod Packing
+pub mod RoomWord
+pub mod WindowBytes
+pub mod Words
 pub mod Theorems

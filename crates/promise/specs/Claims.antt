@@ -14,10 +14,10 @@ use Rattle.model.specs.Schedules.{Possible}
 use Rattle.model.specs.Rule.{plan}
 use Rattle.promise.specs.declared.Answer.{Answer}
 use Rattle.promise.specs.declared.RoomAnswer.{RoomAnswer}
-use Rattle.promise.specs.Answers.{yes}
+use Rattle.promise.specs.Answers.{yes, refusal}
 use Rattle.promise.specs.Order.{GivenBy}
-use Rattle.promise.specs.Rows.{rowAt, rowCount, jobsOf, plan-buffer, listFault, listOrder}
-use Rattle.promise.specs.Window.{wordsOf, windowAnswer, windowBuffer, pack, Packs, roomWindowAnswer, roomPacked, PlanBytesPromise, PlanNumbersPromise, RoomBytesPromise}
+use Rattle.promise.specs.Rows.{rowAt, rowCount, jobsOf, machine-count, plan-buffer, listFault, listOrder}
+use Rattle.promise.specs.Window.{wordsOf, sent, windowAnswer, windowBuffer, pack, Packs, roomWindowAnswer, roomPacked, PlanBytesPromise, PlanNumbersPromise, RoomBytesPromise}
 use Rattle.promise.specs.Lists.{planned, Holds, answerOf, planOrder, planAnswer, planBuffer, PlanPromise, roomOrder, roomAnswer, roomFigure, RoomPromise}
 
 -- P1: on a yes the buffer holds the plan by job number, row by row and slot by slot, and what was lent beyond
@@ -105,6 +105,22 @@ RoomIsReadBack =
     (machines : ℕ) (list : List ℕ) (b : ℕ) → roomWindowAnswer machines list b ≡ yes
     → (roomPacked machines list b % 4294967296 ≡ 0)
     × (roomFigure machines (wordsOf list) b ≡ cond (ltb (roomPacked machines list b / 4294967296) 2147483648) (pos (roomPacked machines list b / 4294967296)) (negℤ (pos (4294967296 - roomPacked machines list b / 4294967296))))
+
+-- P4: the numbers that were sent as bytes are those that the window reads
+abbrev pub WindowReadsTheNumbers : Type 0
+WindowReadsTheNumbers = (ns : List ℕ) → wordsOf (sent ns) ≡ ns
+
+-- P4: 1 first, then 2 for a length that is not a multiple of 16, then the answer of the numbers
+abbrev pub WindowTakesSixteenARow : Type 0
+WindowTakesSixteenARow =
+    (machines : ℕ) (list : List ℕ) (size : ℕ) → ¬ Holds machines (wordsOf list) machine-count
+    → (length list % 16 ≢ 0 → (windowAnswer machines list size ≡ refusal 2 0 0) × (roomWindowAnswer machines list size ≡ refusal 2 0 0))
+    × (length list % 16 ≡ 0 → (windowAnswer machines list size ≡ planAnswer machines (wordsOf list) (size / 2)) × (roomWindowAnswer machines list size ≡ roomAnswer machines (wordsOf list) size))
+
+abbrev pub WindowCountsMachinesFirst : Type 0
+WindowCountsMachinesFirst =
+    (machines : ℕ) (list : List ℕ) (size : ℕ) → Holds machines (wordsOf list) machine-count
+    → (windowAnswer machines list size ≡ refusal 1 0 0) × (roomWindowAnswer machines list size ≡ refusal 1 0 0)
 
 -- P4: on a yes the bytes at 2 × (168 × i + t − 1) are the machines of row i in slot t, lowest first, and what was lent beyond;
 -- a refusal leaves the bytes, and their length never changes

@@ -23,6 +23,11 @@ wordsFrom bytes i (suc n) = wordAt bytes i ∷ wordsFrom bytes (suc i) n
 unfoldable pub wordsOf : List ℕ → List ℕ
 wordsOf bytes = wordsFrom bytes 0 (length bytes / 4)
 
+-- numbers as a host sends them: four bytes each, lowest first
+abbrev pub sent : List ℕ → List ℕ
+sent [] = []
+sent (n ∷ ns) = n % 256 ∷ n / 256 % 256 ∷ n / 65536 % 256 ∷ n / 16777216 ∷ sent ns
+
 -- "and 2 for a plan number"
 abbrev pub bytesOf : List ℕ → List ℕ
 bytesOf [] = []
