@@ -11,4 +11,10 @@ pub mod Packing
 pub mod RoomWord
 pub mod WindowBytes
 pub mod Words
+pub mod DeskSound
+pub mod DeskTable
+pub mod DeskSeats
+pub mod DeskKept
+pub mod DeskFit
+pub mod DeskRun
 pub mod Theorems

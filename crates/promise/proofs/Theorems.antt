@@ -1,5 +1,6 @@
--- The headline statements of specs/Claims.antt, one theorem each.
+-- The headline statements of specs/Claims.antt and specs/DeskClaims.antt, one theorem each.
 use Rattle.promise.specs.Claims.{WindowReadsTheNumbers, WindowTakesSixteenARow, WindowCountsMachinesFirst, YesWritesThePlan, RefusalWritesNothing, PlanAnswersByTheTable, RoomAnswersByTheTable, PlanSevenIsTrue, RoomFigureIsTheRoom, RowOrderPlaysNoPart, PlanPromiseLeavesOne, RoomPromiseLeavesOne, AnswersPack, PackingIsOneToOne, RoomIsReadBack, WindowWritesThePlan, WindowPromisesLeaveOne}
+use Rattle.promise.specs.DeskClaims.{SoundIsTested, DeskAnswersByTheTable, SoundnessIsKept, RefusalHandsTheDeskBack, AdmitSevenIsTrue, RunGivesOutThePlan}
 use Rattle.promise.proofs.Buffer
 use Rattle.promise.proofs.Table
 use Rattle.promise.proofs.Fit
@@ -10,6 +11,11 @@ use Rattle.promise.proofs.RoomWord
 use Rattle.promise.proofs.WindowBytes
 use Rattle.promise.proofs.Unique
 use Rattle.promise.proofs.Words
+use Rattle.promise.proofs.DeskSound
+use Rattle.promise.proofs.DeskTable
+use Rattle.promise.proofs.DeskKept
+use Rattle.promise.proofs.DeskFit
+use Rattle.promise.proofs.DeskRun
 
 -- P1
 pub yes-writes-the-plan : YesWritesThePlan
@@ -68,3 +74,26 @@ window-takes-sixteen-a-row = Words.window-takes-sixteen-a-row
 
 pub window-counts-machines-first : WindowCountsMachinesFirst
 window-counts-machines-first = Words.window-counts-machines-first
+
+-- S1
+pub sound-is-tested : SoundIsTested
+sound-is-tested = DeskSound.sound-is-tested
+
+-- S2
+pub desk-answers-by-the-table : DeskAnswersByTheTable
+desk-answers-by-the-table = DeskTable.desk-answers-by-the-table
+
+-- S3
+pub soundness-is-kept : SoundnessIsKept
+soundness-is-kept = DeskKept.soundness-is-kept
+
+pub refusal-hands-the-desk-back : RefusalHandsTheDeskBack
+refusal-hands-the-desk-back = DeskKept.refusal-hands-the-desk-back
+
+-- S4
+pub admit-seven-is-true : AdmitSevenIsTrue
+admit-seven-is-true = DeskFit.admit-seven-is-true
+
+-- S5
+pub run-gives-out-the-plan : RunGivesOutThePlan
+run-gives-out-the-plan = DeskRun.run-gives-out-the-plan
