@@ -138,7 +138,7 @@ module _ (desk : Desk) (s : Sound desk) where
           (omega (arith, length-after (column desk) (heldOf desk), s .few)) (rising-after (column desk) (heldOf desk) (s .rising)) after-seats after-room
 
 -- Admit
-in-range : (w : Window) (f : Field) (j : Job) → ¬ OutOfRange w f j → (least w f ≤ fieldOf f j) × (fieldOf f j ≤ greatest w f)
+pub in-range : (w : Window) (f : Field) (j : Job) → ¬ OutOfRange w f j → (least w f ≤ fieldOf f j) × (fieldOf f j ≤ greatest w f)
 in-range w f j n =
     let l : ¬ (fieldOf f j < least w f) = λ h. n (inl h) in
     let g : ¬ (greatest w f < fieldOf f j) = λ h. n (inr h) in

@@ -28,7 +28,7 @@ module _ {A : Type 0} (f : A → ℕ) where
   total-append [] ys = omega arith
   total-append (x ∷ xs) ys = omega (arith, total-append xs ys)
 
-  total-replicate : (n : ℕ) (x : A) → f x ≡ 0 → total f (replicate n x) ≡ 0
+  pub total-replicate : (n : ℕ) (x : A) → f x ≡ 0 → total f (replicate n x) ≡ 0
   total-replicate zero x e = refl
   total-replicate (suc n) x e = omega (arith, total-replicate n x e)
 
@@ -114,7 +114,7 @@ module _ (desk : Desk) (s : Sound desk) (e : (runAnswer desk) .number ≡ 0) whe
   unfolding runOf
   ran-desk = rw e
 
-  ran-held : heldOf ((runOf desk) .desk) ≡ afterRun (column desk) (heldOf desk)
+  pub ran-held : heldOf ((runOf desk) .desk) ≡ afterRun (column desk) (heldOf desk)
   unfolding lowered
   ran-held =
       rw ran-desk

@@ -63,7 +63,7 @@ module _ (machines clock : ℕ) (held : List Held) (m : (1 ≤ machines) × (mac
     room = rw same-held room;
   }
 
-perm-same : {A : Type 0} (xs : List A) → Perm xs xs
+pub perm-same : {A : Type 0} (xs : List A) → Perm xs xs
 perm-same [] = done
 perm-same (x ∷ xs) = keep x (perm-same xs)
 
@@ -174,7 +174,7 @@ unfolding toPlan counted asPlanned
 to-plan-numbers machines clock [] = refl
 to-plan-numbers machines clock (h ∷ hs) = ap (λ (ns : List ℕ). h .number ∷ ns) (to-plan-numbers machines clock hs)
 
-rising-distinct : (ns : List ℕ) → Rising ns → Distinct ns
+pub rising-distinct : (ns : List ℕ) → Rising ns → Distinct ns
 rising-distinct [] r = tt
 rising-distinct (n ∷ ns) r = (All-map (λ m (l : n < m). omega arith) ns (r .0), rising-distinct ns (r .1))
 

@@ -18,7 +18,7 @@ use Rattle.model.proofs.LeastShort.{none-short-is-named}
 use Rattle.promise.specs.declared.Held.{Held}
 use Rattle.promise.specs.declared.Desk.{Desk}
 use Rattle.promise.specs.Desk.{unused, inUse, heldOf, table, jobsFor, SoundSeat, Sound}
-use Rattle.promise.specs.DeskCalls.{seatOk, isUnused, allUnused, seatsOk, noneShort, isSound}
+use Rattle.promise.specs.DeskCalls.{seatOk, seatFits, isUnused, allUnused, seatsOk, noneShort, isSound}
 use Rattle.promise.specs.DeskClaims.{Seated, SoundIsTested}
 use Rattle.promise.proofs.Ladder.{Tells, holds, fails, tells-lt, tells-eq, tells-same}
 
@@ -41,12 +41,13 @@ _and_ (fails h) k = fails (λ b. h (b .0))
 
 -- a seat in use
 tells-seat : (clock : ℕ) (h : Held) → h .number ≢ 0 → Tells (SoundSeat clock h) (seatOk clock h)
-unfolding seatOk
+unfolding seatOk seatFits
 tells-seat clock h n =
     tells-same (omega arith)
     (tells-le (h .number) 65535 and tells-le 1 (h .work) and tells-le (h .work) 60000 and tells-le 1 (h .left) and tells-le (h .left) (h .work)
-    and tells-lt clock (h .deadline) and tells-le (h .deadline) 100000 and tells-le 1 (h .bound) and tells-le (h .bound) 64 and tells-le 1 (h .slots)
-    and tells-le (h .slots) 168 and tells-le (h .deadline - clock) (h .slots) and tells-le (h .work) (h .bound * h .slots))
+    and tells-lt clock (h .deadline) and tells-le (h .deadline) 100000
+    and (tells-le 1 (h .bound) and tells-le (h .bound) 64 and tells-le 1 (h .slots) and tells-le (h .slots) 168 and tells-le (h .deadline - clock) (h .slots)
+    and tells-le (h .work) (h .bound * h .slots)))
 
 -- a seat not in use
 tells-unused : (h : Held) → Tells (h ≡ unused) (isUnused h)

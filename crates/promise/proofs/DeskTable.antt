@@ -35,7 +35,7 @@ less-among : (n : ℕ) (h g : Held) (hs : List Held) → List·Memᴰ g (h ∷ h
 less-among n h g hs (List·Memᴰ·head e) q = inl (rw e at q)
 less-among n h g hs (List·Memᴰ·tail m) q = inr (g, m, q)
 
-tells-held : (n : ℕ) (hs : List Held) → Tells (Among n hs) (isHeld n hs)
+pub tells-held : (n : ℕ) (hs : List Held) → Tells (Among n hs) (isHeld n hs)
 tells-held n [] = fails (λ a. List·Memᴰ·not-nil (a .1))
 tells-held n (h ∷ hs) =
     tells-same (more-among n h hs, λ a. less-among n h (a .0) hs (a .1) (a .2)) (tells-or (tells-eq (h .number) n) (tells-held n hs))
@@ -148,7 +148,7 @@ pub record Admissible (desk : Desk) (j : Job) : Type 0 where
   pub free : ¬ DeskHolds desk j full
   pub room : RoomEverywhere (desk .machines) (asks desk j)
 
-really : {P : Type 0} {t : Bool} → Tells P t → ¬ ¬ P → P
+pub really : {P : Type 0} {t : Bool} → Tells P t → ¬ ¬ P → P
 really (holds h) n = h
 really (fails h) n = absurd (n h)
 

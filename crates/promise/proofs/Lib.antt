@@ -17,4 +17,13 @@ pub mod DeskSeats
 pub mod DeskKept
 pub mod DeskFit
 pub mod DeskRun
+pub mod AnyOrder
+pub mod Standing
+pub mod Owed
+pub mod Pairs
+pub mod Effects
+pub mod CallAnswers
+pub mod CallEffects
+pub mod ReadOff
+pub mod HistoryKept
 pub mod Theorems

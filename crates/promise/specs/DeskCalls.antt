@@ -22,11 +22,15 @@ use Rattle.promise.specs.Rows.{Field, the-number, the-work, the-deadline
 use Rattle.promise.specs.Desk.{unused, heldOf, deskOf, toPlan, jobsFor, Sound, column, leeway}
 
 -- soundness as a test that computes: the seats one after the other, with the number before each
+unfoldable pub seatFits : ℕ → Held → Bool
+seatFits clock h =
+    leb 1 (h .bound) && leb (h .bound) 64 && leb 1 (h .slots) && leb (h .slots) 168 && leb (h .deadline - clock) (h .slots)
+    && leb (h .work) (h .bound * h .slots)
+
 unfoldable pub seatOk : ℕ → Held → Bool
 seatOk clock h =
     leb (h .number) 65535 && leb 1 (h .work) && leb (h .work) 60000 && leb 1 (h .left) && leb (h .left) (h .work) && ltb clock (h .deadline)
-    && leb (h .deadline) 100000 && leb 1 (h .bound) && leb (h .bound) 64 && leb 1 (h .slots) && leb (h .slots) 168 && leb (h .deadline - clock) (h .slots)
-    && leb (h .work) (h .bound * h .slots)
+    && leb (h .deadline) 100000 && seatFits clock h
 
 unfoldable pub isUnused : Held → Bool
 isUnused h = eqb (h .number) 0 && eqb (h .work) 0 && eqb (h .left) 0 && eqb (h .deadline) 0 && eqb (h .bound) 0 && eqb (h .slots) 0

@@ -19,7 +19,7 @@ use Rattle.promise.specs.Order.{GivenBy}
 use Rattle.promise.specs.Rows.{Field}
 use Rattle.promise.specs.Desk.{heldOf, deskOf, asPlanned, toPlan, jobsFor, Sound}
 use Rattle.promise.specs.DeskCalls.{isSound, openOf, withNew, admitAnswer, admitOf, findAnswer, withdrawOf, lookOf, runAnswer, runOf, lowered, DeskTest, not-sound, asked, held-already, full, DeskHolds, deskAnswerOf, admitOrder, findOrder, runOrder}
-use Rattle.promise.specs.History.{Call, Event, answerOf, historyOf, deskAfter, roomOpened, Promised, Ledger, answeredFor, ledgerAfter, toFinish}
+use Rattle.promise.specs.History.{Call, Event, answerOf, historyOf, deskAfter, roomOpened, Promised, Ledger, Owed, answeredFor, ledgerAfter, toFinish}
 
 -- a record has 32 seats
 abbrev pub Seated : Desk → Type 0
@@ -102,14 +102,16 @@ pub record PromiseKept (machines : ℕ) (calls : List Call) : Type 0 where
   pub late : All (λ p. p .job .deadline ≤ (ledgerAfter machines calls) .clock → answeredFor (p .job .number) ((runOf (deskAfter machines calls)) .given) ≡ 0)
       ((ledgerAfter machines calls) .inForce)
   pub room : total (λ g. g .machines) ((runOf (deskAfter machines calls)) .given) ≤ roomOpened machines
+  -- and nothing for a number with no work owed to it
+  pub nobody-else : (n : ℕ) → ¬ Owed (ledgerAfter machines calls) n → answeredFor n ((runOf (deskAfter machines calls)) .given) ≡ 0
   -- (d) no call answers 12
   pub sound : All (λ e. (answerOf e) .number ≢ 12) (historyOf machines calls)
   -- (e) an Admit answered 0 or 7 is answered 7 exactly if nothing could finish it with the admissions in force
   pub exact : (j : Job) → (((admitOf (deskAfter machines calls) j) .answer) .number ≡ 0) ⊎ (((admitOf (deskAfter machines calls) j) .answer) .number ≡ 7)
       → (((admitOf (deskAfter machines calls) j) .answer) .number ≡ 7) ↔ (¬ Possible (roomOpened machines) (toFinish (ledgerAfter machines calls) j))
   -- (f) Look and Withdraw find just the admissions in force with work left, and answer that work
-  pub found : (n : ℕ) → (((lookOf (deskAfter machines calls) n) .answer) .number ≡ 0)
-      ↔ ((p : Promised) × List·Memᴰ p ((ledgerAfter machines calls) .inForce) × (p .job .number ≡ n) × (p .had < p .job .work))
+  pub found : (n : ℕ) → (((lookOf (deskAfter machines calls) n) .answer) .number ≡ 0) ↔ Owed (ledgerAfter machines calls) n
+  pub withdrawn : (n : ℕ) → (((withdrawOf (deskAfter machines calls) n) .answer) .number ≡ 0) ↔ Owed (ledgerAfter machines calls) n
   pub left : (p : Promised) → List·Memᴰ p ((ledgerAfter machines calls) .inForce) → p .had < p .job .work
       → ((lookOf (deskAfter machines calls) (p .job .number)) .left ≡ p .job .work - p .had)
       × ((withdrawOf (deskAfter machines calls) (p .job .number)) .left ≡ p .job .work - p .had)

@@ -3,7 +3,7 @@ use Prim.Native.Nat.{ℕ, _+_, _-_, _≤_, _<_}
 use mathlib.Core.Path.{_≡_}
 use mathlib.Core.Logic.{_≢_}
 use mathlib.Core.Bool.{cond}
-use mathlib.Core.List.{List, [], _∷_, map}
+use mathlib.Core.List.{List, [], _∷_, map, List·Memᴰ}
 use lib.Dec.{ltb, eqb}
 use Rattle.model.specs.Lists.{All, total}
 use Rattle.model.specs.Jobs.{Job}
@@ -73,6 +73,10 @@ pub record Promised : Type 0 where
 pub record Ledger : Type 0 where
   pub clock : ℕ
   pub inForce : List Promised
+
+-- an admission of this number is in force and has work left
+abbrev pub Owed : Ledger → ℕ → Type 0
+Owed l n = (p : Promised) × List·Memᴰ p (l .inForce) × (p .job .number ≡ n) × (p .had < p .job .work)
 
 -- the machines that a Run answered for a number
 unfoldable pub answeredFor : ℕ → List Given → ℕ
