@@ -61,6 +61,7 @@ module _ (desk : Desk) (s : Sound desk) where
     admitted-desk = rw e
 
     in-the-window : (f : Field) → least (admitWindow (desk .clock)) f ≤ fieldOf f j
+    unfolding admitWindow
     in-the-window f = in-range (admitWindow (desk .clock)) f j (admit-passes desk s j (inl e) .0 f) .0
 
     new-numbered : All (λ h. 1 ≤ h .number) (withNew desk j)

@@ -70,7 +70,7 @@ module _ (desk : Desk) (j : Job) where
   join = append (DeskHolds desk j) (deskAnswerOf desk j) desk-refuses
 
   gives-field : (f : Field) → DeskGives (asked f ∷ []) (fieldFault (admitWindow (desk .clock)) 0 f j)
-  unfolding fieldFault
+  unfolding fieldFault admitWindow
   gives-field f =
       let w = admitWindow (desk .clock) in
       test (asked f) (tells-or (tells-lt (fieldOf f j) (least w f)) (tells-lt (greatest w f) (fieldOf f j)))

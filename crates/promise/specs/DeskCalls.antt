@@ -186,7 +186,7 @@ HeldAs desk n = (h : Held) × List·Memᴰ h (heldOf desk) × (h .number ≡ n)
 -- j is the job that Admit is asked for; the other calls look at none of its fields
 abbrev pub DeskHolds : Desk → Job → DeskTest → Type 0
 DeskHolds desk j not-sound = ¬ Sound desk
-DeskHolds desk j (asked f) = OutOfRange (admitWindow (desk .clock)) f j
+DeskHolds desk j (asked f) = OutOfRange (record { from = desk .clock + 1; to = min (desk .clock + 168) 100000 }) f j
 DeskHolds desk j held-already = HeldAs desk (j .number)
 DeskHolds desk j full = 32 ≤ length (heldOf desk)
 DeskHolds desk j no-fit = ¬ RoomEverywhere (desk .machines) (toPlan (desk .machines) (desk .clock) (withNew desk j))
