@@ -1,0 +1,4 @@
+pub mod Early
+pub mod Bytes
+pub mod Plans
+pub mod Rooms

@@ -1,0 +1,156 @@
+// The host window: the planner exported on numbers and lent slices.
+use promise::Answer;
+ghost use mathlib.Core.Path.{_≡_};
+ghost use mathlib.Core.List.{_++_};
+ghost use Prim.Native.Nat.{_+_, _*_, _/_, _≤_, _<_, min};
+ghost use lib.ListN.{length, take, drop};
+ghost use lib.Signed.{mag};
+ghost use Rattle.promise.specs.Rows.{rowCount};
+ghost use Rattle.promise.specs.Window.{wordsFrom, bytesOf, pack, Packs, roomWord, PlanBytesPromise, PlanNumbersPromise, RoomBytesPromise};
+ghost use Rattle.window.specs.Bytes.{fourOf, twoSet, earlyFault, RowsPromise};
+
+// number + 256 × place + 2^32 × amount
+pub fn packed(a: Answer) -> u64
+    requires { ⌜ Packs a ⌝ }
+    ensures { λ r. ⌜ r ≡ pack a ⌝ }
+{
+    a.number as u64 + 256 * (a.place as u64) + 4294967296 * (a.amount as u64)
+}
+
+// A room as 32 bits: itself, or 2^32 less the shortage.
+pub fn room_word(room: i32) -> u64
+    requires { ⌜ mag room < 2000000 ⌝ }
+    ensures { λ r. ⌜ r ≡ roomWord room ⌝ }
+{
+    if room < 0 {
+        return 4294967296 - figures::shortage_of(room) as u64;
+    }
+    room as u64
+}
+
+// The number of four bytes, lowest first.
+pub fn four(a: u8, b: u8, c: u8, d: u8) -> u32
+    ensures { λ r. ⌜ r ≡ fourOf a b c d ⌝ }
+{
+    a as u32 + 256 * (b as u32) + 65536 * (c as u32) + 16777216 * (d as u32)
+}
+
+// 1, 2 or 3 of a list that is not read: the machines, its length, its rows. Else 0.
+pub fn early_fault(machines: u32, list: &[u8]) -> u32
+    ensures { λ r. ⌜ r ≡ earlyFault machines (now (list .entry)) .number ⌝ }
+{
+    if machines < 1 {
+        return 1;
+    }
+    if 64 < machines {
+        return 1;
+    }
+    if list.len() % 16 != 0 {
+        return 2;
+    }
+    if 32 < list.len() / 16 {
+        return 3;
+    }
+    0
+}
+
+// The first n list numbers of the bytes.
+pub fn words(list: &[u8], n: usize) -> [u32; 128]
+    requires { ⌜ (n ≤ 128) × (4 * n ≤ length (now list)) ⌝ }
+    ensures { λ r. ⌜ take n r ≡ wordsFrom (now (list .entry)) 0 n ⌝ }
+{
+    let mut all = [0u32; 128];
+    let mut i = n;
+    while 0 < i {
+        i -= 1;
+        let at = 4 * i;
+        all[i] = four(list[at], list[at + 1], list[at + 2], list[at + 3]);
+    }
+    all
+}
+
+// A plan number as two bytes, lowest first.
+fn put_two(plan: &mut [u8], at: usize, v: u16)
+    requires { ⌜ at + 1 < length (now plan) ⌝ }
+    ensures { λ _. ⌜ now (plan .exit) ≡ twoSet (now (plan .entry)) at v ⌝ }
+{
+    plan[at] = (v % 256) as u8;
+    plan[at + 1] = (v / 256) as u8;
+}
+
+// The plan numbers as bytes.
+pub fn write_bytes(numbers: &[u16], plan: &mut [u8])
+    requires { ⌜ 2 * length (now numbers) ≤ length (now plan) ⌝ }
+    ensures { λ _. ⌜ now (plan .exit) ≡ bytesOf (now (numbers .entry)) ++ drop (2 * length (now (numbers .entry))) (now (plan .entry)) ⌝ }
+{
+    let mut i: usize = 0;
+    while i < numbers.len() {
+        put_two(&mut *plan, 2 * i, numbers[i]);
+        i += 1;
+    }
+}
+
+fn smaller(a: usize, b: usize) -> usize
+    ensures { λ r. ⌜ r ≡ min a b ⌝ }
+{
+    if a < b {
+        return a;
+    }
+    b
+}
+
+// Plan on the numbers of a list, into cells that are written as bytes on a yes.
+pub fn plan_bytes(machines: u32, rows: &[u32], cells: &mut [u16], plan: &mut [u8]) -> u64
+    requires { ⌜ length (now cells) ≡ min (length (now plan) / 2) (168 * rowCount (now rows)) ⌝ }
+    ensures { λ r. ⌜ RowsPromise machines (now (rows .entry)) (now (plan .entry)) r (now (plan .exit)) ⌝ }
+{
+    let planned = planner::plan(machines, rows, &mut *cells);
+    if planned.number != 0 {
+        return packed(planned);
+    }
+    write_bytes(&cells[..], plan);
+    0
+}
+
+// 01's host call: the list and the plan as bytes.
+#[no_mangle]
+pub extern "C" fn vezhdanur_plan(machines: u32, list: &[u8], plan: &mut [u8]) -> u64
+    ensures { λ r. ⌜ PlanBytesPromise machines (now (list .entry)) (now (plan .entry)) r (now (plan .exit)) ⌝ }
+{
+    let fault = early_fault(machines, list);
+    if fault != 0 {
+        return fault as u64;
+    }
+    let n = list.len() / 16;
+    let numbers = words(list, 4 * n);
+    let size = smaller(plan.len() / 2, 168 * n);
+    let mut cells = [0u16; 5376];
+    plan_bytes(machines, &numbers[..4 * n], &mut cells[..size], plan)
+}
+
+// The same on numbers.
+#[no_mangle]
+pub extern "C" fn vezhdanur_plan_numbers(machines: u32, rows: &[u32], plan: &mut [u16]) -> u64
+    ensures { λ r. ⌜ PlanNumbersPromise machines (now (rows .entry)) (now (plan .entry)) r (now (plan .exit)) ⌝ }
+{
+    packed(planner::plan(machines, rows, plan))
+}
+
+// Room: a refusal packed, or the room in the upper half.
+#[no_mangle]
+pub extern "C" fn vezhdanur_room(machines: u32, list: &[u8], boundary: u32) -> u64
+    ensures { λ r. ⌜ RoomBytesPromise machines (now (list .entry)) boundary r ⌝ }
+{
+    let fault = early_fault(machines, list);
+    if fault != 0 {
+        return fault as u64;
+    }
+    let n = list.len() / 16;
+    let numbers = words(list, 4 * n);
+    let told = planner::room(machines, &numbers[..4 * n], boundary);
+    let answer = told.answer;
+    if answer.number != 0 {
+        return packed(answer);
+    }
+    4294967296 * room_word(told.room)
+}
