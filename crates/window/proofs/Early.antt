@@ -1,4 +1,4 @@
--- The refusals of a list by its length alone, at the window and of the numbers that it holds.
+-- The refusals that come before any number is read, at the window and of the numbers that a list holds.
 use Prim.Native.Nat.{ℕ, zero, suc, _*_, _/_, _%_, _≤_, _<_}
 use native.Mathlib.Omega.{arith}
 use mathlib.Core.Path.{_≡_, refl, sym, _∙_, ap}

@@ -18,7 +18,7 @@ fourOf a b c d = a + 256 * b + 65536 * c + 16777216 * d
 abbrev pub twoSet : List ℕ → ℕ → ℕ → List ℕ
 twoSet plan at v = set (set plan at (v % 256)) (at + 1) (v / 256)
 
--- the refusals of a list by its length alone
+-- the refusals that come before any number is read
 unfoldable pub earlyFault : ℕ → List ℕ → Answer
 earlyFault machines list = first (bytesFault machines list) (manyFault (wordsOf list))
 

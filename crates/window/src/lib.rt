@@ -35,7 +35,7 @@ pub fn four(a: u8, b: u8, c: u8, d: u8) -> u32
     a as u32 + 256 * (b as u32) + 65536 * (c as u32) + 16777216 * (d as u32)
 }
 
-// 1, 2 or 3 of a list that is not read: the machines, its length, its rows. Else 0.
+// 1, 2 or 3, before any number is read: there is room for the numbers of 32 rows. Else 0.
 pub fn early_fault(machines: u32, list: &[u8]) -> u32
     ensures { λ r. ⌜ r ≡ earlyFault machines (now (list .entry)) .number ⌝ }
 {
@@ -90,6 +90,7 @@ pub fn write_bytes(numbers: &[u16], plan: &mut [u8])
     }
 }
 
+// As many cells as the plan fills are enough, however long the lent plan is.
 fn smaller(a: usize, b: usize) -> usize
     ensures { λ r. ⌜ r ≡ min a b ⌝ }
 {

@@ -56,7 +56,7 @@ packed-requires : tie.Need-packed-requires
 packed-requires c κs =
     let r = c .before .before .before in
     let a = r .before .before .before .before .before .before .args in
-    told-packs (a .machines) _ (a .boundary) (r .room .result) (r .room .ensures)
+    told-packs (a .machines) _ _ (r .room .result) (r .room .ensures)
 
 returns-2 : tie.Need-returns-2
 returns-2 c =
@@ -72,7 +72,7 @@ small : (c : tie.After-struct-told) → mag (c .before .before .before .before .
 small c =
     let r = c .before .before .before .before in
     let a = r .before .before .before .before .before .before .args in
-    told-small (a .machines) _ (a .boundary) (r .room .result) (r .room .ensures) (c .before .if2 .left)
+    told-small (a .machines) _ _ (r .room .result) (r .room .ensures) (c .before .if2 .left)
 
 word : (c : tie.After-room-word) → c .room-word .result ≡ roomWord (c .before .before .before .before .before .room .result .room)
 word c = c .room-word .ensures ∙ ap roomWord (back (c .before .before .before .before .before .room .result .room) (omega (arith, small (c .before))))
@@ -84,7 +84,7 @@ mul-result : tie.Need-mul-result
 mul-result c =
     let r = c .before .before .before .before .before in
     let a = r .before .before .before .before .before .before .args in
-    omega (arith, told-word (a .machines) _ (a .boundary) (r .room .result) (r .room .ensures) (c .before .before .if2 .left) (c .room-word .result) (word c))
+    omega (arith, told-word (a .machines) _ _ (r .room .result) (r .room .ensures) (c .before .before .if2 .left) (c .room-word .result) (word c))
 
 returns-3 : tie.Need-returns-3
 returns-3 c =
