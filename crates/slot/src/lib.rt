@@ -16,11 +16,6 @@ ghost use Rattle.promise.specs.Desk.{deskOf};
 ghost use Rattle.promise.specs.DeskCalls.{pairs, lowered};
 ghost use Rattle.slot.specs.Slot.{fillDown, givenTo, afterShares};
 
-// What Run answers for a slot.
-pub struct Pairs {
-    pub given: [Given; 32],
-}
-
 // The shares with slots 168 to 1 filled: what is given then is slot 1's.
 pub fn first_slot(list: Jobs, n: usize, machines: u32) -> Table
     requires { ⌜ (n ≤ 32) × Plannable n list ⌝ }
@@ -36,15 +31,15 @@ pub fn first_slot(list: Jobs, n: usize, machines: u32) -> Table
 }
 
 // A pair for each of the first n shares, zeros after the last.
-pub fn pairs_of(table: Table, n: usize) -> Pairs
+pub fn pairs_of(table: Table, n: usize) -> [Given; 32]
     requires { ⌜ n ≤ 32 ⌝ }
-    ensures { λ r. ⌜ r .given ≡ pairs (map givenTo (sharesOf n table)) ⌝ }
+    ensures { λ r. ⌜ r ≡ pairs (map givenTo (sharesOf n table)) ⌝ }
 {
     let none = Given {
         number: 0,
         machines: 0,
     };
-    let mut answer = Pairs { given: [none; 32] };
+    let mut given = [none; 32];
     let mut i: usize = 0;
     while i < n {
         let p = table.shares[i];
@@ -53,10 +48,10 @@ pub fn pairs_of(table: Table, n: usize) -> Pairs
             number: j.number,
             machines: p.given,
         };
-        answer.given[i] = pair;
+        given[i] = pair;
         i += 1;
     }
-    answer
+    given
 }
 
 // A held job with so many units less to do.

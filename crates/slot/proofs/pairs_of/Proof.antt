@@ -9,11 +9,11 @@ use Rattle.slot.proofs.pairs_of.Statement.{statement}
 use Rattle.slot.proofs.pairs_of.Tie as tie
 
 abbrev Inv-loop : tie.InvT-loop
-Inv-loop n table answer₀ i₀ answer i =
-    (i ≤ n) × (answer .given ≡ swept pairOf (table .shares) (answer₀ .given) i) × (length (answer .given) ≡ 32) × (length (answer₀ .given) ≡ 32)
+Inv-loop n table given₀ i₀ given i =
+    (i ≤ n) × (given ≡ swept pairOf (table .shares) given₀ i) × (length given ≡ 32) × (length given₀ ≡ 32)
 
 abbrev μ-loop : tie.MeasureT-loop
-μ-loop n table answer₀ i₀ answer i = n - i
+μ-loop n table given₀ i₀ given i = n - i
 
 len : (c : tie.Start Inv-loop μ-loop) → length (c .args .t1 .shares) ≡ 32
 len c = search (needs, length-unmapped)
@@ -27,11 +27,11 @@ mul-p c = omega arith
 element-copy-out-p : tie.Need-element-copy-out-p Inv-loop μ-loop
 element-copy-out-p c = omega arith
 
-mul-pair : tie.Need-mul-pair Inv-loop μ-loop
-mul-pair c = omega arith
+mul-given : tie.Need-mul-given Inv-loop μ-loop
+mul-given c = omega arith
 
-element-set-from-pair : tie.Need-element-set-from-pair Inv-loop μ-loop
-element-set-from-pair c = omega arith
+array-set-from-given : tie.Need-array-set-from-given Inv-loop μ-loop
+array-set-from-given c = omega arith
 
 add-i : tie.Need-add-i Inv-loop μ-loop
 add-i c = search needs
@@ -44,8 +44,8 @@ loop-again c =
     let s = c .before .before .before in
     let l = s .before .args .t1 .shares in (
       omega arith,
-      pair-step l _ (s .loop .answer .given) (s .loop .i) _ (omega (arith, len (s .before))) (omega arith) (s .loop .inv .1),
-      length-set (s .loop .answer .given) (s .loop .i) _ ∙ s .loop .inv .2,
+      pair-step l _ (s .loop .given) (s .loop .i) _ (omega (arith, len (s .before))) (omega arith) (s .loop .inv .1),
+      length-set (s .loop .given) (s .loop .i) _ ∙ s .loop .inv .2,
       s .loop .inv .3,
     )
 
@@ -67,8 +67,8 @@ pairs-of-spec =
     loop-holds
     mul-p
     element-copy-out-p
-    mul-pair
-    element-set-from-pair
+    mul-given
+    array-set-from-given
     add-i
     loop-less
     loop-again
