@@ -26,4 +26,5 @@ pub mod CallAnswers
 pub mod CallEffects
 pub mod ReadOff
 pub mod HistoryKept
+pub mod WorkedDesk
 pub mod Theorems

@@ -17,6 +17,8 @@ use Rattle.promise.proofs.DeskKept
 use Rattle.promise.proofs.DeskFit
 use Rattle.promise.proofs.DeskRun
 use Rattle.promise.proofs.HistoryKept
+use Rattle.promise.proofs.WorkedDesk
+use Rattle.promise.specs.WorkedDesk.{DeskOfTwo}
 
 -- P1
 pub yes-writes-the-plan : YesWritesThePlan
@@ -102,3 +104,7 @@ run-gives-out-the-plan = DeskRun.run-gives-out-the-plan
 -- H
 pub demand-three : DemandThree
 demand-three = HistoryKept.demand-three
+
+-- D1
+pub desk-of-two : DeskOfTwo
+desk-of-two = WorkedDesk.desk-of-two

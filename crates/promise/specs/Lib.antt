@@ -7,4 +7,5 @@ pub mod Desk
 pub mod DeskCalls
 pub mod History
 pub mod DeskClaims
+pub mod WorkedDesk
 pub mod Claims
