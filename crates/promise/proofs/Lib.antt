@@ -17,6 +17,7 @@ pub mod DeskSeats
 pub mod DeskKept
 pub mod DeskFit
 pub mod DeskRun
+pub mod DeskUnique
 pub mod AnyOrder
 pub mod Standing
 pub mod Owed

@@ -1,6 +1,6 @@
 -- The headline statements of specs/Claims.antt and specs/DeskClaims.antt, one theorem each.
 use Rattle.promise.specs.Claims.{WindowReadsTheNumbers, WindowTakesSixteenARow, WindowCountsMachinesFirst, YesWritesThePlan, RefusalWritesNothing, PlanAnswersByTheTable, RoomAnswersByTheTable, PlanSevenIsTrue, RoomFigureIsTheRoom, RowOrderPlaysNoPart, PlanPromiseLeavesOne, RoomPromiseLeavesOne, AnswersPack, PackingIsOneToOne, RoomIsReadBack, WindowWritesThePlan, WindowPromisesLeaveOne}
-use Rattle.promise.specs.DeskClaims.{SoundIsTested, DeskAnswersByTheTable, SoundnessIsKept, RefusalHandsTheDeskBack, AdmitSevenIsTrue, RunGivesOutThePlan, DemandThree}
+use Rattle.promise.specs.DeskClaims.{SoundIsTested, DeskAnswersByTheTable, SoundnessIsKept, RefusalHandsTheDeskBack, AdmitSevenIsTrue, RunGivesOutThePlan, DeskCallsLeaveOne, DemandThree}
 use Rattle.promise.proofs.Buffer
 use Rattle.promise.proofs.Table
 use Rattle.promise.proofs.Fit
@@ -16,6 +16,7 @@ use Rattle.promise.proofs.DeskTable
 use Rattle.promise.proofs.DeskKept
 use Rattle.promise.proofs.DeskFit
 use Rattle.promise.proofs.DeskRun
+use Rattle.promise.proofs.DeskUnique
 use Rattle.promise.proofs.HistoryKept
 use Rattle.promise.proofs.WorkedDesk
 use Rattle.promise.specs.WorkedDesk.{DeskOfTwo}
@@ -100,6 +101,10 @@ admit-seven-is-true = DeskFit.admit-seven-is-true
 -- S5
 pub run-gives-out-the-plan : RunGivesOutThePlan
 run-gives-out-the-plan = DeskRun.run-gives-out-the-plan
+
+-- uniqueness
+pub desk-calls-leave-one : DeskCallsLeaveOne
+desk-calls-leave-one = DeskUnique.desk-calls-leave-one
 
 -- H
 pub demand-three : DemandThree

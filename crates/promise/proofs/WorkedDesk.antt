@@ -13,4 +13,12 @@ use Rattle.promise.proofs.HistoryKept.{demand-three}
 
 pub desk-of-two : DeskOfTwo
 unfolding historyOf deskAfter ledgerAfter ledgerOf answeredFor credited openOf admitOf withdrawOf lookOf runOf admitAnswer findAnswer runAnswer soundFault isSound seatOk seatFits isUnused countFault fieldFault fieldsFault admitWindow newHeld withNew pairs givenOf lowered heldOf table deskOf asPlanned toPlan jobsFor column leeway width counted runLength forcedOf forced room shortAt leastShort orElse plan planIn planFrom fresh fill clear bump nobody before qualifies runLeft
-desk-of-two = record { answered = refl; leeway-one = refl; leeway-two = refl; empty = refl; ledger = refl; kept = demand-three 2 wholeStory }
+desk-of-two = record {
+  answered = refl;
+  leeway-one = refl;
+  leeway-later = refl;
+  leeway-two = refl;
+  empty = refl;
+  ledger = refl;
+  kept = demand-three 2 wholeStory;
+}

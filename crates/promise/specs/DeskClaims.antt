@@ -14,6 +14,10 @@ use Rattle.promise.specs.declared.Answer.{Answer}
 use Rattle.promise.specs.declared.Held.{Held}
 use Rattle.promise.specs.declared.Desk.{Desk}
 use Rattle.promise.specs.declared.Given.{Given}
+use Rattle.promise.specs.declared.Desked.{Desked}
+use Rattle.promise.specs.declared.Withdrawn.{Withdrawn}
+use Rattle.promise.specs.declared.Looked.{Looked}
+use Rattle.promise.specs.declared.Ran.{Ran}
 use Rattle.promise.specs.Answers.{yes, refusal}
 use Rattle.promise.specs.Order.{GivenBy}
 use Rattle.promise.specs.Rows.{Field}
@@ -87,6 +91,25 @@ pub record GivesOut (desk : Desk) : Type 0 where
 
 abbrev pub RunGivesOutThePlan : Type 0
 RunGivesOutThePlan = (desk : Desk) → Sound desk → (runAnswer desk) .number ≡ 0 → GivesOut desk
+
+-- uniqueness: whatever the record, one answer, one figure each and one desk meet the promise of a call
+pub record OneOutcome (desk : Desk) : Type 0 where
+  pub admit : (j : Job) (r r′ : Desked) → r ≡ admitOf desk j → r′ ≡ admitOf desk j → r ≡ r′
+  pub withdraw : (n : ℕ) (r r′ : Withdrawn) → r ≡ withdrawOf desk n → r′ ≡ withdrawOf desk n → r ≡ r′
+  pub look : (n : ℕ) (r r′ : Looked) → r ≡ lookOf desk n → r′ ≡ lookOf desk n → r ≡ r′
+  pub run : (r r′ : Ran) → r ≡ runOf desk → r′ ≡ runOf desk → r ≡ r′
+
+-- and these are whole: a desk of 32 seats, a Run of 32 pairs
+pub record WholeOutcome (desk : Desk) : Type 0 where
+  pub admit : (j : Job) → Seated ((admitOf desk j) .desk)
+  pub withdraw : (n : ℕ) → Seated ((withdrawOf desk n) .desk)
+  pub look : (n : ℕ) → Seated ((lookOf desk n) .desk)
+  pub run : Seated ((runOf desk) .desk)
+  pub pairs : length ((runOf desk) .given) ≡ 32
+
+abbrev pub DeskCallsLeaveOne : Type 0
+DeskCallsLeaveOne = ((machines : ℕ) (r r′ : Desked) → r ≡ openOf machines → r′ ≡ openOf machines → r ≡ r′)
+    × ((desk : Desk) → Seated desk → OneOutcome desk × WholeOutcome desk)
 
 -- H, demand 3: the history of any calls from any Open, as its ledger has it, and any one call more
 pub record PromiseKept (machines : ℕ) (calls : List Call) : Type 0 where

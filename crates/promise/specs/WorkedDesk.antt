@@ -31,6 +31,8 @@ answers =
 pub record DeskOfTwo : Type 0 where
   pub answered : historyOf 2 wholeStory ≡ answers
   pub leeway-one : (lookOf (deskAfter 2 admissions) 1) .leeway ≡ 100
+  -- "of the admitted work": a slot later, with 2 of 4 units left, it is the same
+  pub leeway-later : (lookOf (deskAfter 2 (admissions ++ (run ∷ []))) 1) .leeway ≡ 100
   pub leeway-two : (lookOf (deskAfter 2 admissions) 2) .leeway ≡ 300
   pub empty : deskAfter 2 wholeStory ≡ deskOf 2 3 []
   -- what one who saw only the calls and answers has written down, and that the promise was kept
