@@ -24,6 +24,7 @@ pub mod Owed
 pub mod Pairs
 pub mod Effects
 pub mod CallAnswers
+pub mod Seatwise
 pub mod CallEffects
 pub mod ReadOff
 pub mod HistoryKept

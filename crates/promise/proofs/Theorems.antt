@@ -1,6 +1,6 @@
 -- The headline statements of specs/Claims.antt and specs/DeskClaims.antt, one theorem each.
 use Rattle.promise.specs.Claims.{WindowReadsTheNumbers, WindowTakesSixteenARow, WindowCountsMachinesFirst, YesWritesThePlan, RefusalWritesNothing, PlanAnswersByTheTable, RoomAnswersByTheTable, PlanSevenIsTrue, RoomFigureIsTheRoom, RowOrderPlaysNoPart, PlanPromiseLeavesOne, RoomPromiseLeavesOne, AnswersPack, PackingIsOneToOne, RoomIsReadBack, WindowWritesThePlan, WindowPromisesLeaveOne}
-use Rattle.promise.specs.DeskClaims.{SoundIsTested, DeskAnswersByTheTable, SoundnessIsKept, RefusalHandsTheDeskBack, AdmitSevenIsTrue, RunGivesOutThePlan, DeskCallsLeaveOne, DemandThree}
+use Rattle.promise.specs.DeskClaims.{SoundIsTested, DeskAnswersByTheTable, SoundnessIsKept, RefusalHandsTheDeskBack, AdmitSevenIsTrue, RunGivesOutThePlan, DeskCallsLeaveOne, OpenAnswersByTheTable, SeatsAreToldAndKept, DemandThree}
 use Rattle.promise.proofs.Buffer
 use Rattle.promise.proofs.Table
 use Rattle.promise.proofs.Fit
@@ -17,6 +17,7 @@ use Rattle.promise.proofs.DeskKept
 use Rattle.promise.proofs.DeskFit
 use Rattle.promise.proofs.DeskRun
 use Rattle.promise.proofs.DeskUnique
+use Rattle.promise.proofs.Seatwise
 use Rattle.promise.proofs.HistoryKept
 use Rattle.promise.proofs.WorkedDesk
 use Rattle.promise.specs.WorkedDesk.{DeskOfTwo}
@@ -87,6 +88,9 @@ sound-is-tested = DeskSound.sound-is-tested
 pub desk-answers-by-the-table : DeskAnswersByTheTable
 desk-answers-by-the-table = DeskTable.desk-answers-by-the-table
 
+pub open-answers-by-the-table : OpenAnswersByTheTable
+open-answers-by-the-table = Seatwise.open-answers-by-the-table
+
 -- S3
 pub soundness-is-kept : SoundnessIsKept
 soundness-is-kept = DeskKept.soundness-is-kept
@@ -101,6 +105,10 @@ admit-seven-is-true = DeskFit.admit-seven-is-true
 -- S5
 pub run-gives-out-the-plan : RunGivesOutThePlan
 run-gives-out-the-plan = DeskRun.run-gives-out-the-plan
+
+-- the seats
+pub seats-are-told-and-kept : SeatsAreToldAndKept
+seats-are-told-and-kept = Seatwise.seats-are-told-and-kept
 
 -- uniqueness
 pub desk-calls-leave-one : DeskCallsLeaveOne

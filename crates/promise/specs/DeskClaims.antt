@@ -1,12 +1,12 @@
 -- The headline statements about the desk, each a proposition with a name.
-use Prim.Native.Nat.{ℕ, _+_, _-_, _≤_, _<_}
+use Prim.Native.Nat.{ℕ, _+_, _*_, _-_, _/_, _≤_, _<_}
 use mathlib.Core.Path.{_≡_}
 use mathlib.Core.Logic.{_≢_, _⊎_, _↔_}
 use mathlib.Core.Bool.{true}
 use mathlib.Core.List.{List, [], _∷_, _++_, map, List·Memᴰ}
 use lib.ListN.{length, getD, replicate}
 use Rattle.model.specs.Lists.{All, total}
-use Rattle.model.specs.Jobs.{Job}
+use Rattle.model.specs.Jobs.{Job, runLength, width}
 use Rattle.model.specs.Boundaries.{LeastShort}
 use Rattle.model.specs.Schedules.{Possible}
 use Rattle.model.specs.Rule.{plan}
@@ -40,6 +40,13 @@ DeskAnswersByTheTable =
     → GivenBy (DeskHolds desk j) (deskAnswerOf desk j) admitOrder (admitAnswer desk j)
     × GivenBy (DeskHolds desk j) (deskAnswerOf desk j) (findOrder n) (findAnswer desk n)
     × GivenBy (DeskHolds desk j) (deskAnswerOf desk j) runOrder (runAnswer desk)
+
+-- S2: Open answers 1 for a count out of range, with an empty one-machine desk; else yes, with an empty desk of that count
+abbrev pub OpenAnswersByTheTable : Type 0
+OpenAnswersByTheTable =
+    (machines : ℕ)
+    → ((1 ≤ machines) × (machines ≤ 64) → openOf machines ≡ record { answer = yes; desk = deskOf machines 0 [] })
+    × ((machines < 1) ⊎ (64 < machines) → openOf machines ≡ record { answer = refusal 1 0 0; desk = deskOf 1 0 [] })
 
 -- S3: Open returns a sound desk for every count, and every call on a sound desk returns a sound one
 pub record StaysSound (desk : Desk) : Type 0 where
@@ -91,6 +98,30 @@ pub record GivesOut (desk : Desk) : Type 0 where
 
 abbrev pub RunGivesOutThePlan : Type 0
 RunGivesOutThePlan = (desk : Desk) → Sound desk → (runAnswer desk) .number ≡ 0 → GivesOut desk
+
+-- what Admit, Withdraw and Look do to the seats and tell of them, written out
+pub record SeatBySeat (desk : Desk) : Type 0 where
+  pub admit : (j : Job) → ((admitOf desk j) .answer) .number ≡ 0
+      → (front back : List Held) × (heldOf desk ≡ front ++ back)
+      × ((admitOf desk j) .desk
+      ≡ deskOf (desk .machines) (desk .clock)
+      (front
+      ++ record { number = j .number; work = j .work; left = j .work; deadline = j .deadline; bound = j .bound; slots = j .deadline - desk .clock } ∷ back))
+  pub withdraw : (front back : List Held) (h : Held) → heldOf desk ≡ front ++ h ∷ back
+      → withdrawOf desk (h .number) ≡ record { answer = yes; left = h .left; desk = deskOf (desk .machines) (desk .clock) (front ++ back) }
+  pub look : (h : Held) → List·Memᴰ h (heldOf desk)
+      → lookOf desk (h .number)
+      ≡ record {
+        answer = yes;
+        left = h .left;
+        deadline = h .deadline;
+        bound = h .bound;
+        leeway = 100 * h .slots / runLength (h .work) (width (desk .machines) (h .bound));
+        desk = desk;
+      }
+
+abbrev pub SeatsAreToldAndKept : Type 0
+SeatsAreToldAndKept = (desk : Desk) → Sound desk → SeatBySeat desk
 
 -- uniqueness: whatever the record, one answer, one figure each and one desk meet the promise of a call
 pub record OneOutcome (desk : Desk) : Type 0 where
