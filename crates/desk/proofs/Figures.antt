@@ -1,13 +1,10 @@
 -- A desk that is handed in, and what its sound test, its table and its search tell.
 use Prim.Native.Nat.{ℕ, zero, suc, _*_, _-_, _/_, _≤_, _<_}
-use native.Mathlib.Decide.{ℕ-discrete}
 use native.Mathlib.Omega.{arith}
 use mathlib.Core.Path.{_≡_, refl, sym, _∙_, ap}
-use mathlib.Core.Logic.{_≢_}
 use mathlib.Core.Bool.{Bool, true, false}
 use mathlib.Core.List.{List, [], _∷_}
 use lib.ListN.{length, getD}
-use borrow.Author.Tests.{eq-eqb, ne-eqb}
 use Rattle.model.specs.Lists.{All}
 use Rattle.model.specs.Jobs.{runLength, width}
 use Rattle.model.proofs.Choice.{le-run}
@@ -15,7 +12,7 @@ use Rattle.promise.specs.declared.Answer.{Answer}
 use Rattle.promise.specs.declared.Held.{Held}
 use Rattle.promise.specs.declared.Desk.{Desk}
 use Rattle.promise.specs.Answers as Answers
-use Rattle.promise.specs.Answers.{refusal, first}
+use Rattle.promise.specs.Answers.{refusal}
 use Rattle.promise.specs.Desk.{Sound, leeway}
 use Rattle.promise.specs.DeskCalls.{isSound, soundFault, newHeld}
 use Rattle.promise.specs.DeskClaims.{Seated}
@@ -26,28 +23,6 @@ use Rattle.walk.specs.declared.Fit.the-variants.{Short}
 use Rattle.desk.specs.Calls.{Near}
 use Rattle.promise.proofs.Ladder.{same-number}
 use Rattle.promise.proofs.DeskSound.{sound-is-tested}
-
--- the first of two answers: a is the first, r what comes after it
-pub first-stop : (a x rest : Answer) → a ≡ x → a .number ≢ 0 → a ≡ first x rest
-first-stop a x rest e h = rw (← e, ne-eqb (a .number) 0 h) refl
-
-pub first-past : (a x rest r : Answer) → a ≡ x → a .number ≡ 0 → r ≡ rest → r ≡ first x rest
-first-past a x rest r e z f = rw (← e, eq-eqb (a .number) 0 z) f
-
--- the same tests, the first two taken together
-pub first-first : (a b c : Answer) → first (first a b) c ≡ first a (first b c)
-first-first a b c = go (ℕ-discrete (a .number) 0)
-  where
-    go : Dec (a .number ≡ 0) → first (first a b) c ≡ first a (first b c)
-    go (yes e) = rw (eq-eqb (a .number) 0 e) refl
-    go (no n) = rw (ne-eqb (a .number) 0 n) (rw (ne-eqb (a .number) 0 n) refl)
-
-pub first-zero-front : (a b : Answer) → (first a b) .number ≡ 0 → a .number ≡ 0
-first-zero-front a b z = go (ℕ-discrete (a .number) 0)
-  where
-    go : Dec (a .number ≡ 0) → a .number ≡ 0
-    go (yes e) = e
-    go (no n) = rw (ne-eqb (a .number) 0 n) at z
 
 pub all-nth : (P : Held → Type 0) (hs : List Held) (i : ℕ) (d : Held) → All P hs → i < length hs → P (getD hs i d)
 all-nth P [] i d a l = absurd (omega arith)

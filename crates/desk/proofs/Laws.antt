@@ -25,7 +25,7 @@ use Rattle.promise.specs.Answers.{yes, refusal, fault, first}
 use Rattle.promise.specs.Rows.{Field, the-number, the-work, the-deadline, the-bound, Window, least, greatest, fieldOf, fieldNumber, OutOfRange, fieldFault, fieldsFault}
 use Rattle.promise.specs.Desk.{heldOf, table, deskOf, asPlanned, toPlan, leeway, Sound, SoundSeat}
 use Rattle.promise.specs.DeskCalls.{isHeld, seatOf, without, seated, newHeld, withNew, admitWindow, deskFit, soundFault, admitAnswer, admitOf, findAnswer, withdrawOf, lookOf}
-use Rattle.promise.proofs.Ladder.{Tells, holds, fails, tells-lt, tells-or, same-number, first-zero}
+use Rattle.promise.proofs.Ladder.{Tells, holds, fails, tells-lt, tells-or, same-number, first-zero, first-stop, first-past, first-first, first-zero-front}
 use Rattle.promise.proofs.DeskKept.{in-range}
 use Rattle.promise.proofs.DeskSeats.{seated-perm, length-seated}
 use Rattle.promise.proofs.Bounds.{boundary-le}
@@ -34,7 +34,7 @@ use Rattle.seats.specs.declared.Found.the-variants.{Nothing, At}
 use Rattle.seats.specs.Seats.{findIn}
 use Rattle.seats.proofs.Laws.{find-held, held-first}
 use Rattle.desk.specs.Calls.{seatFault, admitFault, Near}
-use Rattle.desk.proofs.Figures.{first-stop, first-past, first-first, first-zero-front, all-nth}
+use Rattle.desk.proofs.Figures.{all-nth}
 
 -- Withdraw and Look: refused
 module _ (desk : Desk) (n : ℕ) (a : Answer) (e : a ≡ findAnswer desk n) where

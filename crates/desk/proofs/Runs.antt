@@ -21,13 +21,13 @@ use Rattle.promise.specs.declared.Given.{Given}
 use Rattle.promise.specs.Desk.{heldOf, deskOf, toPlan, jobsFor, column, Sound}
 use Rattle.promise.specs.DeskCalls.{soundFault, pairs, givenOf, afterRun, runAnswer, runOf}
 use Rattle.promise.specs.DeskClaims.{Seated}
-use Rattle.promise.proofs.Ladder.{same-number}
+use Rattle.promise.proofs.Ladder.{same-number, first-zero-front}
 use Rattle.promise.proofs.DeskSeats.{to-plan-distinct}
 use Rattle.promise.proofs.DeskTable.{run-yes}
 use Rattle.seats.proofs.Laws.{held-first}
 use Rattle.slot.specs.Slot.{fillDown, givenTo, afterShares}
 use Rattle.slot.proofs.Column.{slot-pairs, slot-after}
-use Rattle.desk.proofs.Figures.{first-zero-front, good}
+use Rattle.desk.proofs.Figures.{good}
 use Rattle.desk.proofs.Laws.{light-in-range, held-light}
 
 module _ (desk : Desk) (a : Answer) (e : a ≡ runAnswer desk) where

@@ -1,11 +1,11 @@
 -- Laws of the first n members of an array, each taken through a function, and of a loop that writes an array member by member.
 use Prim.Native.Nat.{ℕ, zero, suc, _≤_, _<_}
 use native.Mathlib.Omega.{arith}
-use mathlib.Core.Path.{_≡_, refl, sym, _∙_, ap, subst}
+use mathlib.Core.Path.{_≡_, refl, sym, _∙_, ap, ap₂, subst}
 use mathlib.Core.List.{List, [], _∷_, _++_, map}
 use Rattle.model.specs.Lists.{All}
-use lib.ListN.{length, getD, take, drop, set, length-map}
-use lib.Seq.{drop-cons, drop-length, getD-take, length-take-le}
+use lib.ListN.{length, getD, take, drop, set, length-map, length-set}
+use lib.Seq.{drop-cons, drop-length, getD-take, length-take-le, getD-set-same, take-set-lt, drop-set-lt}
 
 -- the length of an array of structs in a struct
 pub length-unmapped : (A B : Type 0) (f : A → B) (l : List A) (n : ℕ) → length (map f l) ≡ n → length l ≡ n
@@ -74,3 +74,18 @@ all-from P (y ∷ l) (suc i) a e = all-from P l i (a .1) e
 pub drop-none : {A : Type 0} (l : List A) (i : ℕ) → i ≡ 0 → drop i l ≡ l
 drop-none [] i e = rw e refl
 drop-none (x ∷ l) i e = rw e refl
+
+-- the first n of a table from index i on, and a table that is set downwards
+module _ {A : Type 0} (n : ℕ) where
+  pub first-none : (l : List A) → n ≤ length l → drop n (take n l) ≡ []
+  first-none l h = ap (λ (k : ℕ). drop k (take n l)) (sym (length-take-le n l h)) ∙ drop-length (take n l)
+
+  module _ (i : ℕ) (h : i < n) where
+    pub first-next : (l : List A) (d : A) → n ≤ length l → drop i (take n l) ≡ getD l i d ∷ drop (suc i) (take n l)
+    first-next l d k =
+        drop-cons (take n l) i d (omega (arith, length-take-le n l k)) ∙ ap (λ (a : A). a ∷ drop (suc i) (take n l)) (getD-take n l i d h)
+
+    pub set-next : (l : List A) (a : A) → n ≤ length l → drop i (take n (set l i a)) ≡ a ∷ drop (suc i) (take n l)
+    set-next l a k =
+        first-next (set l i a) a (omega (arith, length-set l i a))
+        ∙ ap₂ _∷_ (getD-set-same l i a a (omega arith)) (ap (drop (suc i)) (take-set-lt n l i a h) ∙ drop-set-lt (suc i) (take n l) i a (omega arith))

@@ -169,7 +169,7 @@ module _ (given : ℕ → ℕ) where
       go false i = (above, i)
 
 -- the jobs to plan: the numbers of the seats, which differ
-to-plan-numbers : (machines clock : ℕ) (held : List Held) → numbers (toPlan machines clock held) ≡ numbered held
+pub to-plan-numbers : (machines clock : ℕ) (held : List Held) → numbers (toPlan machines clock held) ≡ numbered held
 unfolding toPlan counted asPlanned
 to-plan-numbers machines clock [] = refl
 to-plan-numbers machines clock (h ∷ hs) = ap (λ (ns : List ℕ). h .number ∷ ns) (to-plan-numbers machines clock hs)

@@ -6,7 +6,7 @@ use mathlib.Core.Logic.{_≢_, _⊎_, inl, inr, _↔_}
 use mathlib.Core.Bool.{Bool, true, false, cond, not, _||_}
 use mathlib.Core.List.{List, [], _∷_, _++_}
 use lib.Dec.{ltb, eqb}
-use borrow.Author.Tests.{ltb-true, ltb-false, eqb-true, eqb-false, ne-eqb}
+use borrow.Author.Tests.{ltb-true, ltb-false, eqb-true, eqb-false, eq-eqb, ne-eqb}
 use Rattle.model.specs.Lists.{All}
 use Rattle.promise.specs.declared.Answer.{Answer}
 use Rattle.promise.specs.Answers.{yes, fault, first}
@@ -58,6 +58,29 @@ first-zero a b = go (eqb (a .number) 0) refl
     go : (t : Bool) → eqb (a .number) 0 ≡ t → (cond t b a) .number ≡ 0 → b .number ≡ 0
     go true e z = z
     go false e z = absurd (eqb-false (a .number) 0 e z)
+
+-- the first of two answers: a is the first, r what comes after it
+pub first-stop : (a x rest : Answer) → a ≡ x → a .number ≢ 0 → a ≡ first x rest
+first-stop a x rest e h = rw (← e, ne-eqb (a .number) 0 h) refl
+
+pub first-past : (a x rest r : Answer) → a ≡ x → a .number ≡ 0 → r ≡ rest → r ≡ first x rest
+first-past a x rest r e z f = rw (← e, eq-eqb (a .number) 0 z) f
+
+-- no refusal of two is no refusal of the first
+pub first-zero-front : (a b : Answer) → (first a b) .number ≡ 0 → a .number ≡ 0
+first-zero-front a b = go (eqb (a .number) 0) refl
+  where
+    go : (t : Bool) → eqb (a .number) 0 ≡ t → (cond t b a) .number ≡ 0 → a .number ≡ 0
+    go true e z = eqb-true (a .number) 0 e
+    go false e z = z
+
+-- the same tests, the first two taken together
+pub first-first : (a b c : Answer) → first (first a b) c ≡ first a (first b c)
+first-first a b c = go (eqb (a .number) 0) refl
+  where
+    go : (t : Bool) → eqb (a .number) 0 ≡ t → cond (eqb ((cond t b a) .number) 0) c (cond t b a) ≡ cond t (first b c) a
+    go true e = refl
+    go false e = rw e refl
 
 module _ {A : Type 0} (P : A → Type 0) where
   pub All-front : (xs ys : List A) → All P (xs ++ ys) → All P xs

@@ -4,9 +4,8 @@ use native.Mathlib.Omega.{arith}
 use mathlib.Core.Path.{_≡_, refl, sym, _∙_, ap, ap₂}
 use mathlib.Core.Logic.{_≢_}
 use mathlib.Core.Bool.{Bool, true, false}
-use mathlib.Core.List.{List, [], _∷_, map}
-use lib.ListN.{length, getD, take, drop, set, length-set}
-use lib.Seq.{drop-cons, drop-length, length-take-le, getD-set-same, take-set-lt, drop-set-lt}
+use mathlib.Core.List.{List, _∷_, map}
+use lib.ListN.{length, getD, take, drop, set}
 use borrow.Author.Tests.{lt-ltb, le-ltb, eq-eqb, ne-eqb}
 use Rattle.model.specs.Jobs as Model
 use Rattle.model.specs.Jobs.{width, counted}
@@ -16,16 +15,11 @@ use Rattle.promise.specs.Rows.{rowAt, rowCount, jobRows, jobsOf, listWindow, fi
 use Rattle.promise.specs.Lists.{planned}
 use Rattle.figures.specs.declared.Job.{Job}
 use Rattle.figures.specs.Jobs.{asJob}
+use Rattle.figures.proofs.Tables.{first-none, set-next, drop-none}
+use Rattle.promise.proofs.Ladder.{first-stop, first-past}
 use Rattle.walk.specs.declared.Jobs.{Jobs}
 use Rattle.walk.specs.Walk.{asJobs}
 use Rattle.rows.specs.Rows.{windowOf, rangeFault, rowFault, rowsFaults}
-
--- the first of two answers: a is the first, r what comes after it
-first-stop : (a x rest : Answer) → a ≡ x → a .number ≢ 0 → a ≡ first x rest
-first-stop a x rest e h = rw (← e, ne-eqb (a .number) 0 h) refl
-
-first-past : (a x rest r : Answer) → a ≡ x → a .number ≡ 0 → r ≡ rest → r ≡ first x rest
-first-past a x rest r e z f = rw (← e, eq-eqb (a .number) 0 z) f
 
 -- one value and its range, test by test
 module _ (place field value least greatest : ℕ) where
@@ -168,22 +162,6 @@ module _ (machines : ℕ) (rows : List ℕ) where
       unfolding listFault countFault lengthFault manyFault rowCount rowsFaults
       rows-only h a e = rw (le-ltb machines 1 low, le-ltb 64 machines high, eq-eqb (length rows % 4) 0 whole, le-ltb 32 (length rows / 4) h) e
 
--- a table that is set downwards, from its n-th place
-set-next : (n i : ℕ) (l : List Job) (j : Job) → i < n → n ≤ length l → drop i (take n (set l i j)) ≡ j ∷ drop (suc i) (take n l)
-set-next n i l j h k =
-    let m : List Job = take n l in
-    let e : i < length m = omega (arith, length-take-le n l k) in
-    ap (drop i) (take-set-lt n l i j h)
-    ∙ drop-cons (set m i j) i j (omega (arith, length-set m i j))
-    ∙ ap₂ _∷_ (getD-set-same m i j j e) (drop-set-lt (suc i) m i j (omega arith))
-
-set-none : (n : ℕ) (l : List Job) → n ≤ length l → drop n (take n l) ≡ []
-set-none n l h = ap (λ (k : ℕ). drop k (take n l)) (sym (length-take-le n l h)) ∙ drop-length (take n l)
-
-set-all : (i : ℕ) (l : List Job) → i ≡ 0 → drop i l ≡ l
-set-all i [] e = rw e refl
-set-all i (j ∷ l) e = rw e refl
-
 -- the jobs that are planned, from row i on
 module _ (machines n : ℕ) (rows : List ℕ) where
   abbrev pub Loaded : ℕ → List Job → Type 0
@@ -191,17 +169,17 @@ module _ (machines n : ℕ) (rows : List ℕ) where
 
   pub load-start : (l : List Job) → n ≤ length l → Loaded n l
   unfolding counted
-  load-start l h = let e : n - n ≡ 0 = omega arith in rw (set-none n l h, e) refl
+  load-start l h = let e : n - n ≡ 0 = omega arith in rw (first-none n l h, e) refl
 
   pub load-step : (i : ℕ) (l : List Job) (j r : Job) → i < n → n ≤ length l → asJob j ≡ rowAt rows i → asJob r ≡ record { number = j .number; work = j .work; deadline = j .deadline; bound = width machines (j .bound) }
       → Loaded (suc i) l → Loaded i (set l i r)
   unfolding counted
   load-step i l j r h k e f g =
       let z : n - i ≡ suc (n - suc i) = omega arith in
-      rw (set-next n i l r h k, z, ← e) (ap₂ _∷_ f g)
+      rw (set-next n i h l r k, z, ← e) (ap₂ _∷_ f g)
 
   pub load-end : (i : ℕ) (r : Jobs) → n ≡ length rows / 4 → i ≡ 0 → Loaded i (r .jobs) → asJobs (rowCount rows) r ≡ planned machines rows
   unfolding asJobs planned jobsOf rowCount
   load-end i r e z f =
       let y : n - i ≡ n = omega arith in
-      rw (← e) (ap (map asJob) (sym (set-all i (take n (r .jobs)) z)) ∙ f ∙ ap₂ (λ (a b : ℕ). counted machines (jobRows rows a b)) z y)
+      rw (← e) (ap (map asJob) (sym (drop-none (take n (r .jobs)) i z)) ∙ f ∙ ap₂ (λ (a b : ℕ). counted machines (jobRows rows a b)) z y)

@@ -6,7 +6,7 @@ use mathlib.Core.Bool.{cond}
 use mathlib.Core.List.{List, [], _∷_, map, List·Memᴰ}
 use lib.Dec.{leb}
 use Rattle.model.specs.Lists.{All, Distinct}
-use Rattle.model.specs.Jobs.{numbers, counted}
+use Rattle.model.specs.Jobs.{numbers}
 use Rattle.model.specs.Rule.{Share, fresh, fill, shareOf, cell, planFrom}
 use Rattle.model.proofs.Lists.{All-mem}
 use Rattle.model.proofs.Shares.{numbersOf, numbers-fill, numbers-fresh, fresh-distinct, share-of, at-slot, under-slot}
@@ -14,12 +14,10 @@ use Rattle.model.proofs.Start.{start-plays-no-part}
 use Rattle.promise.specs.declared.Held.{Held}
 use Rattle.promise.specs.declared.Desk.{Desk}
 use Rattle.promise.specs.declared.Given.{Given}
-use Rattle.promise.specs.Desk.{heldOf, asPlanned, toPlan, jobsFor, column}
+use Rattle.promise.specs.Desk.{heldOf, jobsFor, column}
 use Rattle.promise.specs.DeskCalls.{givenOf, lowered, afterRun}
+use Rattle.promise.proofs.DeskSeats.{numbered, to-plan-numbers}
 use Rattle.slot.specs.Slot.{fillDown, givenTo, afterShares}
-
-abbrev seatNumbers : List Held → List ℕ
-seatNumbers held = map (λ h. h .number) held
 
 -- filling keeps the numbers, and the last slot filled is slot 1
 down-numbers : (C t : ℕ) (ps : List Share) → numbersOf (fillDown C t ps) ≡ numbersOf ps
@@ -42,7 +40,7 @@ each-has f ps d h = All-mem ps each
 
 -- seat by seat
 module _ (f : ℕ → ℕ) where
-  same-pairs : (ps : List Share) (held : List Held) → Has f ps → numbersOf ps ≡ seatNumbers held → map givenTo ps ≡ givenOf f held
+  same-pairs : (ps : List Share) (held : List Held) → Has f ps → numbersOf ps ≡ numbered held → map givenTo ps ≡ givenOf f held
   unfolding givenTo givenOf
   same-pairs [] [] a e = refl
   same-pairs [] (h ∷ hs) a e = absurd (let z : _≡_ {A = ℕ} 0 1 = cc in omega arith)
@@ -50,22 +48,17 @@ module _ (f : ℕ → ℕ) where
   same-pairs (p ∷ ps) (h ∷ hs) a e =
       let n : p .job .number ≡ h .number = cc in
       let m : p .given ≡ f (h .number) = a .0 ∙ ap f n in
-      let r : numbersOf ps ≡ seatNumbers hs = cc in
+      let r : numbersOf ps ≡ numbered hs = cc in
       ap₂ (λ (g : Given) (gs : List Given). g ∷ gs) (λ i. record { number = n i; machines = m i }) (same-pairs ps hs (a .1) r)
 
-  same-after : (ps : List Share) (held : List Held) → Has f ps → numbersOf ps ≡ seatNumbers held → afterShares ps held ≡ afterRun f held
+  same-after : (ps : List Share) (held : List Held) → Has f ps → numbersOf ps ≡ numbered held → afterShares ps held ≡ afterRun f held
   same-after [] [] a e = refl
   same-after [] (h ∷ hs) a e = absurd (let z : _≡_ {A = ℕ} 0 1 = cc in omega arith)
   same-after (p ∷ ps) [] a e = absurd (let z : _≡_ {A = ℕ} 0 1 = cc in omega arith)
   same-after (p ∷ ps) (h ∷ hs) a e =
       let n : p .job .number ≡ h .number = cc in
-      let r : numbersOf ps ≡ seatNumbers hs = cc in
+      let r : numbersOf ps ≡ numbered hs = cc in
       ap₂ (λ (m : ℕ) (l : List Held). cond (leb (h .left) m) l (lowered m h ∷ l)) (a .0 ∙ ap f n) (same-after ps hs (a .1) r)
-
-plan-numbers : (machines clock : ℕ) (held : List Held) → numbers (toPlan machines clock held) ≡ seatNumbers held
-unfolding toPlan counted asPlanned
-plan-numbers machines clock [] = refl
-plan-numbers machines clock (h ∷ hs) = ap (λ (ns : List ℕ). h .number ∷ ns) (plan-numbers machines clock hs)
 
 module _ (desk : Desk) (apart : Distinct (numbers (jobsFor desk))) (deadlines : All (λ j. j .deadline ≤ 168) (jobsFor desk)) where
   filled : List Share
@@ -78,12 +71,12 @@ module _ (desk : Desk) (apart : Distinct (numbers (jobsFor desk))) (deadlines : 
       each-has (column desk) filled (rw (down-numbers (desk .machines) 168 (map fresh jobs)) (fresh-distinct jobs apart))
       (λ n. down-given (desk .machines) n 167 (map fresh jobs) ∙ start-plays-no-part (desk .machines) 168 jobs deadlines n 1)
 
-  theirs : numbersOf filled ≡ seatNumbers (heldOf desk)
+  theirs : numbersOf filled ≡ numbered (heldOf desk)
   unfolding filled jobsFor
   theirs =
       down-numbers (desk .machines) 168 (map fresh (jobsFor desk))
       ∙ numbers-fresh (jobsFor desk)
-      ∙ plan-numbers (desk .machines) (desk .clock) (heldOf desk)
+      ∙ to-plan-numbers (desk .machines) (desk .clock) (heldOf desk)
 
   pub slot-pairs : map givenTo (fillDown (desk .machines) 168 (map fresh (jobsFor desk))) ≡ givenOf (column desk) (heldOf desk)
   unfolding filled

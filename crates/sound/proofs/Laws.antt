@@ -6,8 +6,8 @@ use mathlib.Core.Logic.{_≢_}
 use mathlib.Core.Bool.{Bool, true, false, cond, _&&_, true≢false}
 use mathlib.Core.List.{List, [], _∷_, map}
 use lib.Dec.{leb, ltb, eqb}
-use lib.ListN.{length, getD, take, drop, set, length-set, length-take}
-use lib.Seq.{drop-cons, drop-length, length-take-le, getD-take, getD-set-same, take-set-lt, drop-set-lt}
+use lib.ListN.{length, getD, take, drop, set, length-take}
+use lib.Seq.{drop-cons, drop-length}
 use borrow.Author.Tests.{lt-ltb, le-ltb, le-leb, eq-eqb, ne-eqb, leb-true}
 use Rattle.model.specs.Lists.{All}
 use Rattle.model.specs.Jobs as Model
@@ -20,7 +20,7 @@ use Rattle.promise.specs.Desk.{inUse, heldOf, asPlanned, toPlan, jobsFor}
 use Rattle.promise.specs.DeskCalls.{seatOk, seatFits, isUnused, allUnused, seatsOk, noneShort, isSound}
 use Rattle.figures.specs.declared.Job.{Job}
 use Rattle.figures.specs.Jobs.{asJob}
-use Rattle.figures.proofs.Tables.{drop-none}
+use Rattle.figures.proofs.Tables.{first-none, first-next, set-next, drop-none}
 use Rattle.walk.specs.declared.Jobs.{Jobs}
 use Rattle.walk.specs.declared.Fit.{Fit}
 use Rattle.walk.specs.Walk.{asJobs, InRange, Small, asShort}
@@ -63,21 +63,6 @@ module _ (l : List Held) (i : ℕ) (d : Held) (hi : i < length l) where
         pub seats-on : b ≡ true → seatsOk clock before (drop i l) ≡ seatsOk clock ((getD l i d) .number) (drop (suc i) l)
         seats-on t =
             ap (seatsOk clock before) here ∙ rw (ne-eqb ((getD l i d) .number) 0 used, lt-ltb before ((getD l i d) .number) above, ← e, t) refl
-
--- the first n of a table, from index i on, and a table that is set downwards
-module _ {A : Type 0} (n : ℕ) where
-  first-none : (l : List A) → n ≤ length l → drop n (take n l) ≡ []
-  first-none l h = ap (λ (k : ℕ). drop k (take n l)) (sym (length-take-le n l h)) ∙ drop-length (take n l)
-
-  module _ (i : ℕ) (h : i < n) where
-    first-next : (l : List A) (d : A) → n ≤ length l → drop i (take n l) ≡ getD l i d ∷ drop (suc i) (take n l)
-    first-next l d k =
-        drop-cons (take n l) i d (omega (arith, length-take-le n l k)) ∙ ap (λ (a : A). a ∷ drop (suc i) (take n l)) (getD-take n l i d h)
-
-    set-next : (l : List A) (a : A) → n ≤ length l → drop i (take n (set l i a)) ≡ a ∷ drop (suc i) (take n l)
-    set-next l a k =
-        first-next (set l i a) a (omega (arith, length-set l i a))
-        ∙ ap₂ _∷_ (getD-set-same l i a a (omega arith)) (ap (drop (suc i)) (take-set-lt n l i a h) ∙ drop-set-lt (suc i) (take n l) i a (omega arith))
 
 -- the jobs of the first n seats, from seat i on
 abbrev pub Loaded : ℕ → ℕ → ℕ → List Held → ℕ → List Job → Type 0

@@ -1,3 +1,4 @@
+use Rattle.promise.proofs.Ladder.{first-stop, first-past}
 use lib.ListN.{length}
 use Rattle.figures.proofs.Tables.{length-unmapped}
 use native.Mathlib.Omega.{arith}
@@ -9,7 +10,7 @@ use Rattle.promise.specs.DeskCalls.{admitWindow}
 use Rattle.rows.specs.Rows.{windowOf}
 use Rattle.figures.specs.Jobs.{asJob}
 use Rattle.desk.specs.Calls.{admitFault}
-use Rattle.desk.proofs.Figures.{first-stop, first-past, good}
+use Rattle.desk.proofs.Figures.{good}
 use borrow.Author.Needs.{needs}
 use Rattle.desk.proofs.admit_fault.Statement.{statement}
 use Rattle.desk.proofs.admit_fault.Tie as tie

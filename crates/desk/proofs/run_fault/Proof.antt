@@ -1,7 +1,7 @@
+use Rattle.promise.proofs.Ladder.{first-stop, first-past}
 use mathlib.Core.Path.{refl, sym, _∙_}
 use borrow.Author.Tests.{eq-eqb, ne-eqb}
 use Rattle.promise.specs.DeskCalls.{runAnswer}
-use Rattle.desk.proofs.Figures.{first-stop, first-past}
 use borrow.Author.Needs.{needs}
 use Rattle.desk.proofs.run_fault.Statement.{statement}
 use Rattle.desk.proofs.run_fault.Tie as tie
