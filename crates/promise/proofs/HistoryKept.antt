@@ -73,4 +73,5 @@ demand-three machines calls =
       withdrawn = kept-withdrawn s;
       left = kept-left s;
       runs = kept-runs s;
+      clock = s .clock;
     }

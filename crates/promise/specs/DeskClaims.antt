@@ -171,6 +171,8 @@ pub record PromiseKept (machines : ℕ) (calls : List Call) : Type 0 where
       × ((withdrawOf (deskAfter machines calls) (p .job .number)) .left ≡ p .job .work - p .had)
   -- (g) below clock 100,000 Run answers 0, so every due slot is reached
   pub runs : (ledgerAfter machines calls) .clock < 100000 → (runOf (deskAfter machines calls)) .answer ≡ yes
+  -- (g) and no other call moves the clock: it is the number of Runs answered 0
+  pub clock : (deskAfter machines calls) .clock ≡ (ledgerAfter machines calls) .clock
 
 abbrev pub DemandThree : Type 0
 DemandThree = (machines : ℕ) (calls : List Call) → PromiseKept machines calls
