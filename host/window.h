@@ -24,8 +24,9 @@
  * Below zero it is a shortage. The boundaries of a list are 0 and each deadline in it. A list fits
  * exactly if none of them is short.
  *
- * ANSWERS. Each call returns number + 256 * place + 2^32 * amount. Number 0 is a yes. Any other
- * number is a refusal, and then nothing has been written:
+ * ANSWERS. Each call returns number + 256 * place + 2^32 * amount (a yes of vezhdanur_room has the
+ * room for an amount, see there). Number 0 is a yes. Any other number is a refusal, and then
+ * nothing has been written:
  *
  *   no.  given when                                     place                 amount
  *    1   machines is not 1 to 64                        0                     0

@@ -14,7 +14,7 @@ use Rattle.promise.proofs.Standing.{standing-of}
 use Rattle.promise.proofs.Owed.{owed}
 use Rattle.promise.proofs.Effects.{InStep, effect-in-step}
 use Rattle.promise.proofs.CallAnswers.{call-not-twelve}
-use Rattle.promise.proofs.ReadOff.{kept-in-time, kept-before-again, kept-bounds, kept-late, kept-room, kept-exact, kept-found, kept-withdrawn, kept-nobody-else, kept-left, kept-runs}
+use Rattle.promise.proofs.ReadOff.{kept-in-time, kept-before-again, kept-bounds, kept-late, kept-room, kept-exact, kept-found, kept-withdrawn, kept-nobody-else, kept-left, kept-told, kept-runs}
 use Rattle.promise.proofs.CallEffects.{call-effect}
 
 -- a call on a sound desk returns a sound one
@@ -72,6 +72,7 @@ demand-three machines calls =
       found = kept-found s;
       withdrawn = kept-withdrawn s;
       left = kept-left s;
+      told = kept-told s;
       runs = kept-runs s;
       clock = s .clock;
     }

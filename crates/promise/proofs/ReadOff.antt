@@ -172,6 +172,38 @@ module _ {room : ℕ} {desk : Desk} {l : Ledger} (s : InStep room desk l) where
       left : (seatOf (p .job .number) (heldOf desk)) .left ≡ p .job .work - p .had
       left = All-at (λ q. q .had < q .job .work → (seatOf (q .job .number) (heldOf desk)) .left ≡ q .job .work - q .had) p owed-left m u
 
+  -- its due slot and its bound
+  owed-told : All (λ p. p .had < p .job .work
+      → ((seatOf (p .job .number) (heldOf desk)) .deadline - desk .clock ≡ p .job .deadline - l .clock)
+      × ((seatOf (p .job .number) (heldOf desk)) .bound ≡ p .job .bound) × (1 ≤ p .job .deadline - l .clock)) (l .inForce)
+  unfolding remaining asPlanned
+  owed-told =
+      let held = heldOf desk in
+      let As-held : Job → Type 0 =
+      λ j. ((seatOf (j .number) held) .deadline - desk .clock ≡ j .deadline) × ((seatOf (j .number) held) .bound ≡ j .bound) × (1 ≤ j .deadline) in
+      carried s As-held
+      (standing-all desk As-held
+      (All-both
+      (λ h (e : seatOf (h .number) held ≡ h) (t : SoundSeat (desk .clock) h). (ap (λ (g : Held). g .deadline - desk .clock) e, ap (λ (g : Held). g .bound) e, t .due .0))
+      held (seat-found held (sound-distinct desk (s .sound))) (s .sound .seats)))
+
+  pub kept-told : (p : Promised) → List·Memᴰ p (l .inForce) → p .had < p .job .work
+      → ((lookOf desk (p .job .number)) .deadline ≡ p .job .deadline) × ((lookOf desk (p .job .number)) .bound ≡ p .job .bound)
+  unfolding lookOf
+  kept-told p m u = rw (owed-found p m u) (deadline, told .1)
+    where
+      told : ((seatOf (p .job .number) (heldOf desk)) .deadline - desk .clock ≡ p .job .deadline - l .clock)
+          × ((seatOf (p .job .number) (heldOf desk)) .bound ≡ p .job .bound) × (1 ≤ p .job .deadline - l .clock)
+      told =
+          All-at
+          (λ q. q .had < q .job .work
+          → ((seatOf (q .job .number) (heldOf desk)) .deadline - desk .clock ≡ q .job .deadline - l .clock)
+          × ((seatOf (q .job .number) (heldOf desk)) .bound ≡ q .job .bound) × (1 ≤ q .job .deadline - l .clock))
+          p owed-told m u
+
+      deadline : (seatOf (p .job .number) (heldOf desk)) .deadline ≡ p .job .deadline
+      deadline = omega (arith, told .0, told .2, s .clock)
+
   -- (g)
   pub kept-runs : l .clock < 100000 → (runOf desk) .answer ≡ yes-answer
   unfolding runOf

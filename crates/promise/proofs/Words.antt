@@ -8,6 +8,7 @@ use mathlib.Core.Bool.{Bool, true, false, not, _||_}
 use lib.Dec.{ltb, eqb}
 use borrow.Author.Tests.{lt-ltb, le-ltb, eq-eqb, ne-eqb}
 use lib.ListN.{length, getD}
+use Rattle.model.specs.Lists.{All}
 use Rattle.promise.specs.declared.Answer.{Answer}
 use Rattle.promise.specs.Answers.{yes, refusal, fault, first}
 use Rattle.promise.specs.Rows.{countFault}
@@ -46,11 +47,15 @@ words-read : (ns : List ℕ) → wordsFrom (sent ns) 0 (length ns) ≡ ns
 words-read [] = refl
 words-read (n ∷ ns) = ap₂ _∷_ (first-word n ns) (words-on (n % 256) (n / 256 % 256) (n / 65536 % 256) (n / 16777216) (sent ns) 0 (length ns) ∙ words-read ns)
 
+bytes-sent : (ns : List ℕ) → All (λ n. n < 4294967296) ns → All (λ b. b < 256) (sent ns)
+bytes-sent [] h = tt
+bytes-sent (n ∷ ns) h = let l = h .0 in (omega arith, (omega arith, (omega arith, (omega arith, bytes-sent ns (h .1)))))
+
 pub window-reads-the-numbers : WindowReadsTheNumbers
 unfolding wordsOf
 window-reads-the-numbers ns =
     let count : length (sent ns) / 4 ≡ length ns = omega (arith, sent-length ns) in
-    rw count (words-read ns)
+    (rw count (words-read ns), bytes-sent ns)
 
 -- 1 and 2 at the window
 module _ (machines : ℕ) (list : List ℕ) where

@@ -106,9 +106,9 @@ RoomIsReadBack =
     → (roomPacked machines list b % 4294967296 ≡ 0)
     × (roomFigure machines (wordsOf list) b ≡ cond (ltb (roomPacked machines list b / 4294967296) 2147483648) (pos (roomPacked machines list b / 4294967296)) (negℤ (pos (4294967296 - roomPacked machines list b / 4294967296))))
 
--- P4: the numbers that were sent as bytes are those that the window reads
+-- P4: the numbers that were sent are those that the window reads, and 32-bit numbers are sent as bytes
 abbrev pub WindowReadsTheNumbers : Type 0
-WindowReadsTheNumbers = (ns : List ℕ) → wordsOf (sent ns) ≡ ns
+WindowReadsTheNumbers = (ns : List ℕ) → (wordsOf (sent ns) ≡ ns) × (All (λ n. n < 4294967296) ns → All (λ b. b < 256) (sent ns))
 
 -- P4: 1 first, then 2 for a length that is not a multiple of 16, then the answer of the numbers
 abbrev pub WindowTakesSixteenARow : Type 0

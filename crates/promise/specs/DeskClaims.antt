@@ -169,6 +169,10 @@ pub record PromiseKept (machines : ℕ) (calls : List Call) : Type 0 where
   pub left : (p : Promised) → List·Memᴰ p ((ledgerAfter machines calls) .inForce) → p .had < p .job .work
       → ((lookOf (deskAfter machines calls) (p .job .number)) .left ≡ p .job .work - p .had)
       × ((withdrawOf (deskAfter machines calls) (p .job .number)) .left ≡ p .job .work - p .had)
+  -- and Look tells the due slot and the bound that it was admitted with
+  pub told : (p : Promised) → List·Memᴰ p ((ledgerAfter machines calls) .inForce) → p .had < p .job .work
+      → ((lookOf (deskAfter machines calls) (p .job .number)) .deadline ≡ p .job .deadline)
+      × ((lookOf (deskAfter machines calls) (p .job .number)) .bound ≡ p .job .bound)
   -- (g) below clock 100,000 Run answers 0, so every due slot is reached
   pub runs : (ledgerAfter machines calls) .clock < 100000 → (runOf (deskAfter machines calls)) .answer ≡ yes
   -- (g) and no other call moves the clock: it is the number of Runs answered 0
