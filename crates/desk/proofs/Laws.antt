@@ -59,6 +59,12 @@ module _ (desk : Desk) (n : ℕ) (a : Answer) (e : a ≡ findAnswer desk n) wher
     unfolding lookOf
     look-answered l el = rw (← e, eq-eqb (a .number) 0 z, ← same, ← el) refl
 
+-- the search among the first seats is one among the held jobs
+searched : (desk : Desk) → desk .seats ≡ table (heldOf desk) → (k : ℕ) → k ≡ length (heldOf desk) → (n : ℕ) (o : Found)
+    → o ≡ findIn n 0 (take k (desk .seats)) → o ≡ findIn n 0 (heldOf desk)
+searched desk zeros k count n o eo =
+    eo ∙ ap (λ (l : ℕ). findIn n 0 (take l (desk .seats))) count ∙ ap (findIn n 0) (held-first desk zeros)
+
 -- the search, on a desk that passes the sound test
 module _ (desk : Desk) (f : Answer) (told : f ≡ soundFault desk) where
   pub unsound-found : f .number ≢ 0 → (n : ℕ) → f ≡ findAnswer desk n
@@ -66,18 +72,18 @@ module _ (desk : Desk) (f : Answer) (told : f ≡ soundFault desk) where
   unsound-found h n = first-stop f (soundFault desk) _ told h
 
   module _ (clear : f ≡ yes) (s : Sound desk) (k : ℕ) (count : k ≡ length (heldOf desk)) (n : ℕ) (o : Found) (eo : o ≡ findIn n 0 (take k (desk .seats))) where
-    searched : o ≡ findIn n 0 (heldOf desk)
-    searched = eo ∙ ap (λ (l : ℕ). findIn n 0 (take l (desk .seats))) count ∙ ap (findIn n 0) (held-first desk (s .zeros))
+    among : o ≡ findIn n 0 (heldOf desk)
+    among = searched desk (s .zeros) k count n o eo
 
     pub not-found : o ≡ Nothing → refusal 10 0 0 ≡ findAnswer desk n
     unfolding findAnswer
     not-found e =
         first-past f (soundFault desk) (fault (not (isHeld n (heldOf desk))) (refusal 10 0 0)) (refusal 10 0 0) told (same-number clear)
-        (rw (find-held n (heldOf desk) .0 (sym searched ∙ e)) refl)
+        (rw (find-held n (heldOf desk) .0 (sym among ∙ e)) refl)
 
     module _ (i : ℕ) (e : o ≡ At i) where
       pub here : findIn n 0 (heldOf desk) ≡ At i
-      here = sym searched ∙ e
+      here = sym among ∙ e
 
       pub found : f ≡ findAnswer desk n
       unfolding findAnswer
@@ -101,7 +107,7 @@ module _ (desk : Desk) (f : Answer) (told : f ≡ soundFault desk) where
 -- a number that is held, a full table
 module _ (desk : Desk) (zeros : desk .seats ≡ table (heldOf desk)) (k : ℕ) (count : k ≡ length (heldOf desk)) (n : ℕ) (o : Found) (eo : o ≡ findIn n 0 (take k (desk .seats))) where
   looked : o ≡ findIn n 0 (heldOf desk)
-  looked = eo ∙ ap (λ (l : ℕ). findIn n 0 (take l (desk .seats))) count ∙ ap (findIn n 0) (held-first desk zeros)
+  looked = searched desk zeros k count n o eo
 
   pub held-fault : (i : ℕ) → o ≡ At i → refusal 5 0 0 ≡ seatFault desk n
   unfolding seatFault

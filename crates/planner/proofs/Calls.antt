@@ -19,7 +19,7 @@ use Rattle.promise.specs.declared.Answer.{Answer}
 use Rattle.promise.specs.Answers.{yes, refusal, first, fitAnswer}
 use Rattle.promise.specs.Rows.{rowCount, listFault, listOrder}
 use Rattle.promise.specs.Lists.{planned, Holds, answerOf, planAnswer, planBuffer, written, PlanPromise, roomAnswer, roomFigure, RoomPromise}
-use Rattle.promise.proofs.Ladder.{zero-yes, same-number}
+use Rattle.promise.proofs.Ladder.{zero-yes, same-number, first-stop}
 use Rattle.promise.proofs.Table.{refuses, gives-list}
 use Rattle.promise.proofs.Sound.{Passes, listed-passes, planned-distinct, planned-in-range, few-machines, few-rows}
 use Rattle.promise.proofs.Buffer.{refusal-writes-nothing}
@@ -28,10 +28,6 @@ use Rattle.walk.specs.Walk.{asJobs, Small}
 use Rattle.planner.specs.Writing.{Plannable}
 
 module _ (machines : ℕ) (rows : List ℕ) (f : Answer) (checked : f ≡ listFault machines rows) where
-  -- a list that is refused
-  fault-first : (b : Answer) → f .number ≢ 0 → f ≡ first (listFault machines rows) b
-  fault-first b h = rw (← checked, ne-eqb (f .number) 0 h)
-
   -- a list that is in order
   module _ (good : f .number ≡ 0) where
     pub listed : listFault machines rows ≡ yes
@@ -61,7 +57,7 @@ module _ (machines : ℕ) (rows : List ℕ) (f : Answer) (checked : f ≡ listFa
 
     pub plan-fault : f .number ≢ 0 → PlanPromise machines rows lent f lent
     unfolding planAnswer
-    plan-fault h = refused f (fault-first _ h) h
+    plan-fault h = refused f (first-stop f (listFault machines rows) _ checked h) h
 
     pub plan-short-buffer : f .number ≡ 0 → length lent < 168 * rowCount rows → (r : Answer) → r ≡ refusal 6 0 0 → PlanPromise machines rows lent r lent
     unfolding planAnswer
@@ -99,7 +95,7 @@ module _ (machines : ℕ) (rows : List ℕ) (f : Answer) (checked : f ≡ listFa
 
     pub room-fault : f .number ≢ 0 → RoomPromise machines rows b (record { answer = f; room = pos 0 })
     unfolding roomAnswer
-    room-fault h = room-refused f (fault-first _ h) h
+    room-fault h = room-refused f (first-stop f (listFault machines rows) _ checked h) h
 
     pub room-far : f .number ≡ 0 → 168 < b → (r : Answer) → r ≡ refusal 9 0 0 → RoomPromise machines rows b (record { answer = r; room = pos 0 })
     unfolding roomAnswer

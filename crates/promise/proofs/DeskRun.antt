@@ -122,7 +122,7 @@ module _ (desk : Desk) (s : Sound desk) (e : (runAnswer desk) .number ≡ 0) whe
       (All-after (column desk) (SoundSeat (desk .clock)) (λ h. 1 ≤ h .number) (λ h l q. q .number .0) (heldOf desk) (s .seats)))
 
   gives-out : GivesOut desk
-  unfolding column givenOf jobsFor deskOf nothing
+  unfolding column givenOf jobsFor deskOf nothing lowered
   gives-out = record {
     pairs = given-pairs;
     room = given-room;

@@ -1,5 +1,5 @@
 -- The headline statements of specs/Claims.antt and specs/DeskClaims.antt, one theorem each.
-use Rattle.promise.specs.Claims.{WindowReadsTheNumbers, WindowTakesSixteenARow, WindowCountsMachinesFirst, YesWritesThePlan, RefusalWritesNothing, PlanAnswersByTheTable, RoomAnswersByTheTable, PlanSevenIsTrue, RoomFigureIsTheRoom, RowOrderPlaysNoPart, PlanPromiseLeavesOne, RoomPromiseLeavesOne, AnswersPack, PackingIsOneToOne, RoomIsReadBack, WindowWritesThePlan, WindowPromisesLeaveOne}
+use Rattle.promise.specs.Claims.{WindowReadsTheNumbers, WindowTakesSixteenARow, WindowCountsBytes, WindowCountsMachinesFirst, YesWritesThePlan, RefusalWritesNothing, PlanAnswersByTheTable, RoomAnswersByTheTable, PlanSevenIsTrue, RoomFigureIsTheRoom, RowOrderPlaysNoPart, PlanPromiseLeavesOne, RoomPromiseLeavesOne, AnswersPack, PackingIsOneToOne, RoomIsReadBack, WindowWritesThePlan, WindowPromisesLeaveOne}
 use Rattle.promise.specs.DeskClaims.{SoundIsTested, DeskAnswersByTheTable, SoundnessIsKept, RefusalHandsTheDeskBack, AdmitSevenIsTrue, RunGivesOutThePlan, DeskCallsLeaveOne, OpenAnswersByTheTable, SeatsAreToldAndKept, DemandThree}
 use Rattle.promise.proofs.Buffer
 use Rattle.promise.proofs.Table
@@ -73,6 +73,9 @@ window-promises-leave-one = Unique.window-promises-leave-one
 
 pub window-reads-the-numbers : WindowReadsTheNumbers
 window-reads-the-numbers = Words.window-reads-the-numbers
+
+pub window-counts-bytes : WindowCountsBytes
+window-counts-bytes = Words.window-counts-bytes
 
 pub window-takes-sixteen-a-row : WindowTakesSixteenARow
 window-takes-sixteen-a-row = Words.window-takes-sixteen-a-row

@@ -1,7 +1,7 @@
 -- P4: the numbers that were sent as bytes are those that the window reads.
 use Prim.Native.Nat.{ℕ, zero, suc, _+_, _*_, _/_, _%_, _<_}
 use native.Mathlib.Omega.{arith}
-use mathlib.Core.Path.{_≡_, refl, _∙_, ap₂}
+use mathlib.Core.Path.{_≡_, refl, _∙_, ap, ap₂}
 use mathlib.Core.List.{List, [], _∷_}
 use mathlib.Core.Logic.{_≢_, _⊎_, inl, inr}
 use mathlib.Core.Bool.{Bool, true, false, not, _||_}
@@ -11,9 +11,9 @@ use lib.ListN.{length, getD}
 use Rattle.model.specs.Lists.{All}
 use Rattle.promise.specs.declared.Answer.{Answer}
 use Rattle.promise.specs.Answers.{yes, refusal, fault, first}
-use Rattle.promise.specs.Rows.{countFault}
+use Rattle.promise.specs.Rows.{rowCount, countFault}
 use Rattle.promise.specs.Window.{wordAt, wordsFrom, wordsOf, sent, bytesFault, windowAnswer, roomWindowAnswer}
-use Rattle.promise.specs.Claims.{WindowReadsTheNumbers, WindowTakesSixteenARow, WindowCountsMachinesFirst}
+use Rattle.promise.specs.Claims.{WindowReadsTheNumbers, WindowTakesSixteenARow, WindowCountsBytes, WindowCountsMachinesFirst}
 
 sent-length : (ns : List ℕ) → length (sent ns) ≡ 4 * length ns
 sent-length [] = omega arith
@@ -56,6 +56,15 @@ unfolding wordsOf
 window-reads-the-numbers ns =
     let count : length (sent ns) / 4 ≡ length ns = omega (arith, sent-length ns) in
     (rw count (words-read ns), bytes-sent ns)
+
+words-length : (bytes : List ℕ) (i n : ℕ) → length (wordsFrom bytes i n) ≡ n
+words-length bytes i zero = refl
+words-length bytes i (suc n) = ap suc (words-length bytes (suc i) n)
+
+pub window-counts-bytes : WindowCountsBytes
+unfolding wordsOf rowCount
+window-counts-bytes machines list size =
+    (omega (arith, words-length list 0 (length list / 4)), ((λ l. omega arith), λ l. omega arith))
 
 -- 1 and 2 at the window
 module _ (machines : ℕ) (list : List ℕ) where

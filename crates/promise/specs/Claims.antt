@@ -117,6 +117,13 @@ WindowTakesSixteenARow =
     → (length list % 16 ≢ 0 → (windowAnswer machines list size ≡ refusal 2 0 0) × (roomWindowAnswer machines list size ≡ refusal 2 0 0))
     × (length list % 16 ≡ 0 → (windowAnswer machines list size ≡ planAnswer machines (wordsOf list) (size / 2)) × (roomWindowAnswer machines list size ≡ roomAnswer machines (wordsOf list) size))
 
+-- P4: "16 a row", "fewer than 336 × n bytes is a 6"
+abbrev pub WindowCountsBytes : Type 0
+WindowCountsBytes =
+    (machines : ℕ) (list : List ℕ) (size : ℕ)
+    → (rowCount (wordsOf list) ≡ length list / 16)
+    × (Holds machines (wordsOf list) (plan-buffer (size / 2)) ↔ (size < 336 * rowCount (wordsOf list)))
+
 abbrev pub WindowCountsMachinesFirst : Type 0
 WindowCountsMachinesFirst =
     (machines : ℕ) (list : List ℕ) (size : ℕ) → Holds machines (wordsOf list) machine-count

@@ -22,7 +22,7 @@ use Rattle.promise.specs.Answers.{yes, refusal}
 use Rattle.promise.specs.Order.{GivenBy}
 use Rattle.promise.specs.Rows.{Field}
 use Rattle.promise.specs.Desk.{heldOf, deskOf, asPlanned, toPlan, jobsFor, Sound}
-use Rattle.promise.specs.DeskCalls.{isSound, openOf, withNew, admitAnswer, admitOf, findAnswer, withdrawOf, lookOf, runAnswer, runOf, lowered, DeskTest, not-sound, asked, held-already, full, DeskHolds, deskAnswerOf, admitOrder, findOrder, runOrder}
+use Rattle.promise.specs.DeskCalls.{isSound, openOf, withNew, admitAnswer, admitOf, findAnswer, withdrawOf, lookOf, runAnswer, runOf, DeskTest, not-sound, asked, held-already, full, DeskHolds, deskAnswerOf, admitOrder, findOrder, runOrder}
 use Rattle.promise.specs.History.{Call, Event, answerOf, historyOf, deskAfter, roomOpened, Promised, Ledger, Owed, answeredFor, ledgerAfter, toFinish}
 
 -- a record has 32 seats
@@ -91,10 +91,10 @@ pub record GivesOut (desk : Desk) : Type 0 where
   pub machines : ((runOf desk) .desk) .machines ≡ desk .machines
   -- exactly the seats with work left, each lowered by exactly what was answered and all else as before
   pub stay : (h : Held) → List·Memᴰ h (heldOf desk) → plan (desk .machines) (jobsFor desk) (h .number) 1 < h .left
-      → List·Memᴰ (lowered (plan (desk .machines) (jobsFor desk) (h .number) 1) h) (heldOf ((runOf desk) .desk))
+      → List·Memᴰ (record { number = h .number; work = h .work; left = h .left - plan (desk .machines) (jobsFor desk) (h .number) 1; deadline = h .deadline; bound = h .bound; slots = h .slots }) (heldOf ((runOf desk) .desk))
   pub only : (g : Held) → List·Memᴰ g (heldOf ((runOf desk) .desk))
       → (h : Held) × List·Memᴰ h (heldOf desk) × (plan (desk .machines) (jobsFor desk) (h .number) 1 < h .left)
-      × (g ≡ lowered (plan (desk .machines) (jobsFor desk) (h .number) 1) h)
+      × (g ≡ record { number = h .number; work = h .work; left = h .left - plan (desk .machines) (jobsFor desk) (h .number) 1; deadline = h .deadline; bound = h .bound; slots = h .slots })
 
 abbrev pub RunGivesOutThePlan : Type 0
 RunGivesOutThePlan = (desk : Desk) → Sound desk → (runAnswer desk) .number ≡ 0 → GivesOut desk

@@ -57,7 +57,7 @@ pub record Packs (a : Answer) : Type 0 where
   pub place : a .place < 16777216
   pub amount : a .amount < 4294967296
 
--- a room as 32 bits: itself, or 2^32 less the shortage; and how it is read back
+-- a room as 32 bits: itself, or 2^32 less the shortage
 abbrev pub roomWord : ℤ → ℕ
 roomWord (pos n) = n
 roomWord (negsuc n) = 4294967296 - suc n
