@@ -30,3 +30,5 @@ pub mod ReadOff
 pub mod HistoryKept
 pub mod WorkedDesk
 pub mod Theorems
+pub mod Starred
+pub mod Lines

@@ -6,6 +6,10 @@ pub mod Window
 pub mod Desk
 pub mod DeskCalls
 pub mod History
+pub mod Texts
+pub mod JobFile
+pub mod PlanText
+pub mod TextClaims
 pub mod DeskClaims
 pub mod WorkedDesk
 pub mod Claims

@@ -62,3 +62,27 @@ pub struct Ran {
     pub given: [Given; 32],
     pub desk: Desk,
 }
+
+// The lines of a job file: the first, then these five for each job.
+pub enum LineKind {
+    MachinesLine,
+    JobLine,
+    WorkLine,
+    DeadlineLine,
+    BoundLine,
+    LabelLine,
+}
+
+// What the reader of a job file answers: the machine count, the number of groups, the rows of the first 32.
+pub struct Reading {
+    pub answer: Answer,
+    pub machines: u32,
+    pub groups: u32,
+    pub rows: [u32; 128],
+}
+
+// A printed text: its bytes, zeros after them, and how many there are.
+pub struct Text {
+    pub bytes: [u8; 40960],
+    pub len: usize,
+}
