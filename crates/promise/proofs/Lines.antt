@@ -7,7 +7,7 @@ use Rattle.promise.specs.Texts.{newline, Lines, inFront, cut}
 use Rattle.promise.specs.JobFile.{OneLine}
 
 pub cut-line : (line more : List ℕ) → OneLine line
-  → cut (line ++ (newline ∷ more)) ≡ record { whole = line ∷ (cut more) .whole; rest = (cut more) .rest }
+    → cut (line ++ (newline ∷ more)) ≡ record { whole = line ∷ (cut more) .whole; rest = (cut more) .rest }
 cut-line [] more h = refl
 cut-line (b ∷ line) more h = rw (ne-eqb b newline (h .0)) (ap (λ (l : Lines). inFront b (l .whole) (l .rest)) (cut-line line more (h .1)))
 

@@ -138,29 +138,43 @@ module _ (rows : List ℕ) (n : ℕ) where
   pub rows-end : (i : ℕ) → n ≤ i → yes ≡ rowsFault rows i (n - i)
   rows-end i l = let e : n - i ≡ 0 = omega arith in rw e refl
 
--- the list: the number of machines, the list's length, the number of rows, then the rows
-module _ (machines : ℕ) (rows : List ℕ) where
-  pub none-of-machines : machines < 1 → refusal 1 0 0 ≡ listFault machines rows
-  unfolding listFault countFault
+-- the number of machines
+module _ (machines : ℕ) where
+  pub none-of-machines : machines < 1 → refusal 1 0 0 ≡ countFault machines
+  unfolding countFault
   none-of-machines l = rw (lt-ltb machines 1 l) refl
 
-  pub many-machines : 1 ≤ machines → 64 < machines → refusal 1 0 0 ≡ listFault machines rows
-  unfolding listFault countFault
+  pub many-machines : 1 ≤ machines → 64 < machines → refusal 1 0 0 ≡ countFault machines
+  unfolding countFault
   many-machines k l = rw (le-ltb machines 1 k, lt-ltb 64 machines l) refl
 
-  module _ (low : 1 ≤ machines) (high : machines ≤ 64) where
+  pub machines-counted : 1 ≤ machines → machines ≤ 64 → yes ≡ countFault machines
+  unfolding countFault
+  machines-counted k l = rw (le-ltb machines 1 k, le-ltb 64 machines l) refl
+
+-- the list: the number of machines, the list's length, the number of rows, then the rows
+module _ (machines : ℕ) (rows : List ℕ) (count : Answer) (e : count ≡ countFault machines) where
+  pub miscounted : count .number ≢ 0 → count ≡ listFault machines rows
+  unfolding listFault
+  miscounted h = first-stop count (countFault machines) _ e h
+
+  module _ (counted-right : count .number ≡ 0) where
     pub broken-row : length rows % 4 ≢ 0 → refusal 2 0 0 ≡ listFault machines rows
-    unfolding listFault countFault lengthFault
-    broken-row h = rw (le-ltb machines 1 low, le-ltb 64 machines high, ne-eqb (length rows % 4) 0 h) refl
+    unfolding listFault lengthFault
+    broken-row h = first-past count (countFault machines) _ (refusal 2 0 0) e counted-right (rw (ne-eqb (length rows % 4) 0 h) refl)
 
     module _ (whole : length rows % 4 ≡ 0) where
       pub many-rows : 32 < length rows / 4 → refusal 3 0 0 ≡ listFault machines rows
-      unfolding listFault countFault lengthFault manyFault rowCount
-      many-rows h = rw (le-ltb machines 1 low, le-ltb 64 machines high, eq-eqb (length rows % 4) 0 whole, lt-ltb 32 (length rows / 4) h) refl
+      unfolding listFault lengthFault manyFault rowCount
+      many-rows h =
+          first-past count (countFault machines) _ (refusal 3 0 0) e counted-right
+          (rw (eq-eqb (length rows % 4) 0 whole, lt-ltb 32 (length rows / 4) h) refl)
 
       pub rows-only : length rows / 4 ≤ 32 → (a : Answer) → a ≡ rowsFaults rows → a ≡ listFault machines rows
-      unfolding listFault countFault lengthFault manyFault rowCount rowsFaults
-      rows-only h a e = rw (le-ltb machines 1 low, le-ltb 64 machines high, eq-eqb (length rows % 4) 0 whole, le-ltb 32 (length rows / 4) h) e
+      unfolding listFault lengthFault manyFault rowCount rowsFaults
+      rows-only h a f =
+          first-past count (countFault machines) _ a e counted-right
+          (rw (eq-eqb (length rows % 4) 0 whole, le-ltb 32 (length rows / 4) h) f)
 
 -- the jobs that are planned, from row i on
 module _ (machines n : ℕ) (rows : List ℕ) where

@@ -8,7 +8,7 @@ ghost use lib.ListN.{length};
 ghost use Rattle.figures.specs.Jobs.{asJob};
 ghost use Rattle.walk.specs.Walk.{asJobs};
 ghost use Rattle.promise.specs.Answers.{yes, refusal};
-ghost use Rattle.promise.specs.Rows.{rowAt, rowCount, fieldsFault, seenBefore, listFault};
+ghost use Rattle.promise.specs.Rows.{rowAt, rowCount, fieldsFault, seenBefore, countFault, listFault};
 ghost use Rattle.promise.specs.Lists.{planned};
 ghost use Rattle.rows.specs.Rows.{rangeFault, windowOf, rowFault, rowsFaults};
 
@@ -127,15 +127,26 @@ pub fn rows_fault(rows: &[u32]) -> Answer
     accept()
 }
 
-// 1, 2, 3, then row by row.
-pub fn list_fault(machines: u32, rows: &[u32]) -> Answer
-    ensures { λ r. ⌜ r ≡ listFault machines (now (rows .entry)) ⌝ }
+// A 1 if there are no machines, or more than 64.
+pub fn count_fault(machines: u32) -> Answer
+    ensures { λ r. ⌜ r ≡ countFault machines ⌝ }
 {
     if machines < 1 {
         return refuse(1, 0, 0);
     }
     if 64 < machines {
         return refuse(1, 0, 0);
+    }
+    accept()
+}
+
+// 1, 2, 3, then row by row.
+pub fn list_fault(machines: u32, rows: &[u32]) -> Answer
+    ensures { λ r. ⌜ r ≡ listFault machines (now (rows .entry)) ⌝ }
+{
+    let count = count_fault(machines);
+    if count.number != 0 {
+        return count;
     }
     if rows.len() % 4 != 0 {
         return refuse(2, 0, 0);
