@@ -32,3 +32,5 @@ pub mod WorkedDesk
 pub mod Theorems
 pub mod Starred
 pub mod Lines
+pub mod TextTests
+pub mod Digits
