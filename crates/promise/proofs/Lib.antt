@@ -34,3 +34,6 @@ pub mod Starred
 pub mod Lines
 pub mod TextTests
 pub mod Digits
+pub mod FileLines
+pub mod FileFits
+pub mod FileRead
