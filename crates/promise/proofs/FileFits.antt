@@ -59,7 +59,7 @@ groups-fit (g ∷ gs) h =
 file-fits : (f : File) → Typed f → Fits MachinesLine (fileLines f)
 file-fits f h = ((_, number-line-told MachinesLine machines (f .machines) (h .machines)), groups-fit (f .groups) (h .groups))
 
--- only a job's line may be left out
+-- 1 for a job's line, 0 for the others
 atJob : LineKind → ℕ
 atJob JobLine = 1
 atJob MachinesLine = 0

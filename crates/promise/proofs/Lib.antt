@@ -37,3 +37,4 @@ pub mod Digits
 pub mod FileLines
 pub mod FileFits
 pub mod FileRead
+pub mod FileIsRead
