@@ -38,3 +38,5 @@ pub mod FileLines
 pub mod FileFits
 pub mod FileRead
 pub mod FileIsRead
+pub mod FileJobs
+pub mod Printing
