@@ -57,11 +57,11 @@ span-at f a zero s l = absurd (omega arith)
 span-at f a (suc n) zero l = ap f (sym (add-zero a))
 span-at f a (suc n) (suc s) l = span-at f (suc a) n s (omega arith) ∙ ap f (omega arith)
 
-numbers-length : (rows : List ℕ) (i n : ℕ) → length (numbers (jobRows rows i n)) ≡ n
+pub numbers-length : (rows : List ℕ) (i n : ℕ) → length (numbers (jobRows rows i n)) ≡ n
 numbers-length rows i zero = refl
 numbers-length rows i (suc n) = ap suc (numbers-length rows (suc i) n)
 
-numbers-at : (rows : List ℕ) (i n k : ℕ) → k < n → getD (numbers (jobRows rows i n)) k 0 ≡ (rowAt rows (i + k)) .number
+pub numbers-at : (rows : List ℕ) (i n k : ℕ) → k < n → getD (numbers (jobRows rows i n)) k 0 ≡ (rowAt rows (i + k)) .number
 numbers-at rows i zero k l = absurd (omega arith)
 numbers-at rows i (suc n) zero l = ap (λ (m : ℕ). (rowAt rows m) .number) (sym (add-zero i))
 numbers-at rows i (suc n) (suc k) l = numbers-at rows (suc i) n k (omega arith) ∙ ap (λ (m : ℕ). (rowAt rows m) .number) (omega arith)

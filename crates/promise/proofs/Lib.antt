@@ -40,3 +40,4 @@ pub mod FileRead
 pub mod FileIsRead
 pub mod FileJobs
 pub mod Printing
+pub mod FileOrder

@@ -101,7 +101,7 @@ module _ (machines : ℕ → ℕ) where
 
   -- each is one of them
   in-use : (t n s : ℕ) → List·Memᴰ s (slotsInUse t n) → InUse t n s
-  in-use t zero s ()
+  in-use t zero s = elim [ ]
   in-use t (suc n) s = go (ltb 0 (machines t)) refl (in-use (suc t) n s)
     where
       go : (b : Bool) → ltb 0 (machines t) ≡ b → (List·Memᴰ s (slotsInUse (suc t) n) → InUse (suc t) n s)
