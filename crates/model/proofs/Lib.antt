@@ -15,5 +15,4 @@ pub mod Exactly
 pub mod Easier
 pub mod Document
 pub mod RuleIs
-pub mod Worked
 pub mod Theorems

@@ -1,5 +1,5 @@
 -- The headline statements of specs/Claims.antt, one theorem each.
-use Rattle.model.specs.Claims.{ScheduleExactlyIfRoom, ForcedIsTotalLessLambda, DocumentSaysTheSame, NothingIsCutOff, ZeroIsShort, BoundariesSuffice, BoundariesAreListed, LeastShortIsNamed, NoneShortIsNamed, SlotLemma, PlanIsValid, PlanIsTheRule, StartPlaysNoPart, OrderPlaysNoPart, RowsAreThePlan, FirstColumnLeavesRoom, EasierStaysPossible, CountedChangesNothing, WorkedListsComeOut}
+use Rattle.model.specs.Claims.{ScheduleExactlyIfRoom, ForcedIsTotalLessLambda, DocumentSaysTheSame, NothingIsCutOff, ZeroIsShort, BoundariesSuffice, BoundariesAreListed, LeastShortIsNamed, NoneShortIsNamed, SlotLemma, PlanIsValid, PlanIsTheRule, StartPlaysNoPart, OrderPlaysNoPart, RowsAreThePlan, FirstColumnLeavesRoom, EasierStaysPossible, CountedChangesNothing}
 use Rattle.model.proofs.Exactly
 use Rattle.model.proofs.Document
 use Rattle.model.proofs.AllSlots
@@ -11,7 +11,6 @@ use Rattle.model.proofs.Order
 use Rattle.model.proofs.Rows
 use Rattle.model.proofs.FirstColumn
 use Rattle.model.proofs.Easier
-use Rattle.model.proofs.Worked
 
 -- M1
 pub schedule-exactly-if-room : ScheduleExactlyIfRoom
@@ -79,7 +78,3 @@ easier-stays-possible = Easier.easier-stays-possible
 -- the counted jobs
 pub counted-changes-nothing : CountedChangesNothing
 counted-changes-nothing = Exactly.counted-changes-nothing
-
--- P1 to P10
-pub worked-lists-come-out : WorkedListsComeOut
-worked-lists-come-out = Worked.worked-lists-come-out

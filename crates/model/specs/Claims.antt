@@ -12,7 +12,6 @@ use Rattle.model.specs.Boundaries.{Boundary, RoomEverywhere, boundaries,
 use Rattle.model.specs.Schedules.{ValidIn, Valid, Possible, afterFirst, Eases}
 use Rattle.model.specs.Rule.{Share, fill, planFrom, plan, planRows, excess}
 use Rattle.model.specs.Follows.{Follows}
-use Rattle.model.specs.Worked.{worked, computed, stated}
 use Rattle.model.specs.Document.{tau, lastIndex, Tasks, lambda, lambdaC, BoundaryCondition}
 
 -- M1 (document 002, Lemma 1 and Theorem 1): a valid schedule exists exactly if no boundary has negative room
@@ -105,7 +104,3 @@ EasierStaysPossible =
 -- the jobs as they count have the valid schedules of the jobs as they were asked for
 abbrev pub CountedChangesNothing : Type 0
 CountedChangesNothing = (C : ℕ) (jobs : List Job) (y : ℕ → ℕ → ℕ) → Valid C (counted C jobs) y ↔ Valid C jobs y
-
--- the worked lists P1 to P10 come out as 01 states them
-abbrev pub WorkedListsComeOut : Type 0
-WorkedListsComeOut = map computed worked ≡ map stated worked

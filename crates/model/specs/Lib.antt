@@ -5,5 +5,4 @@ pub mod Schedules
 pub mod Rule
 pub mod Follows
 pub mod Document
-pub mod Worked
 pub mod Claims

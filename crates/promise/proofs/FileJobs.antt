@@ -1,5 +1,5 @@
 -- The rows of a job file: its jobs in file order, and that they are never a 2 or a 6.
-use Prim.Native.Nat.{ℕ, zero, suc, _+_, _*_, _/_, _%_, _<_}
+use Prim.Native.Nat.{ℕ, zero, suc, _+_, _*_, _/_, _%_}
 use native.Mathlib.Nat.{mul-div-cancel-left}
 use native.Mathlib.Omega.{arith}
 use mathlib.Core.Path.{_≡_, refl, sym, _∙_, ap, ap₂}
@@ -19,7 +19,7 @@ use Rattle.promise.specs.Rows.{rowAt, rowCount, jobRows, jobsOf, Field, 
 use Rattle.promise.specs.Lists.{planned, planAnswer}
 use Rattle.promise.specs.JobFile.{Group, numbersOf}
 use Rattle.promise.specs.PlanText.{rowsAnswer}
-use Rattle.promise.specs.TextClaims.{fileJobs, FilesAreNoTwoNorSix}
+use Rattle.promise.specs.TextClaims.{FilesAreNoTwoNorSix}
 
 -- four numbers in front are one row in front
 row-behind : (a b c d : ℕ) (rows : List ℕ) (i : ℕ) → rowAt (a ∷ b ∷ c ∷ d ∷ rows) (suc i) ≡ rowAt rows i

@@ -1,9 +1,9 @@
 -- The same jobs in another order: each number keeps its run line.
-use Prim.Native.Nat.{ℕ, zero, suc, _+_, _*_, _%_, _≤_, _<_}
+use Prim.Native.Nat.{ℕ, zero, suc, _+_, _*_, _%_, _<_}
 use native.Mathlib.Omega.{arith}
 use mathlib.Core.Path.{_≡_, refl, sym, _∙_, ap, ap₂}
 use mathlib.Core.Logic.{_≢_}
-use mathlib.Core.List.{List, [], _∷_, map}
+use mathlib.Core.List.{List, [], _∷_}
 use lib.ListN.{length, getD, length-map}
 use Rattle.model.specs.Lists.{total, All, Perm, Distinct, span}
 use Rattle.model.specs.Jobs.{Job, numbers, counted}
@@ -14,18 +14,17 @@ use Rattle.model.proofs.Lists.{total-perm, perm-all, perm-map, perm-distinct}
 use Rattle.model.proofs.Order.{order-plays-no-part}
 use Rattle.promise.specs.declared.LineKind.the-variants.{MachinesLine, JobLine}
 use Rattle.promise.specs.Answers.{fitAnswer}
-use Rattle.promise.specs.Answers as answers
 use Rattle.promise.specs.Rows.{rowAt, rowCount, jobRows, jobsOf, Field, the-number, the-work, the-deadline, the-bound, listWindow, OutOfRange, listFault, rowsTests, listOrder}
 use Rattle.promise.specs.Lists.{planned, Holds, answerOf, planAnswer}
 use Rattle.promise.specs.Texts.{ascii, ended}
-use Rattle.promise.specs.JobFile.{numberLine, Group, File, fileText, Typed, numbersOf}
-use Rattle.promise.specs.PlanText.{rowsAnswer, runLine, runLineOf, linesByNumber, planText}
-use Rattle.promise.specs.TextClaims.{fileJobs, fileAnswer, printedPlan, FileOrderPlaysNoPart}
+use Rattle.promise.specs.JobFile.{numberLine, fileText, numbersOf}
+use Rattle.promise.specs.PlanText.{rowsAnswer, runLine, runLineOf, linesByNumber}
+use Rattle.promise.specs.TextClaims.{fileJobs, printedPlan, FileOrderPlaysNoPart}
 use Rattle.promise.proofs.Ladder.{same-number, none-holds}
 use Rattle.promise.proofs.Table.{gives-list}
 use Rattle.promise.proofs.Sound.{Passes, planned-numbers, planned-distinct, answers-fit, yes-passes, few-rows}
 use Rattle.promise.proofs.Buffer.{numbers-length, numbers-at}
-use Rattle.promise.proofs.FileJobs.{file-rows, jobs-of-file, numbers-length as file-length}
+use Rattle.promise.proofs.FileJobs.{jobs-of-file, numbers-length as file-length}
 use Rattle.promise.proofs.Printing.{text-is-printed}
 
 -- two places of distinct numbers
@@ -48,7 +47,7 @@ perm-length {A} {xs} {ys} p = ones xs ∙ total-perm (λ x. 1) p ∙ sym (ones y
     ones [] = refl
     ones (x ∷ zs) = omega (arith, ones zs)
 
-jobs-length : (rows : List ℕ) → length (jobsOf rows) ≡ rowCount rows
+pub jobs-length : (rows : List ℕ) → length (jobsOf rows) ≡ rowCount rows
 unfolding jobsOf
 jobs-length rows = sym (length-map (jobsOf rows) (λ (j : Job). j .number)) ∙ numbers-length rows 0 (rowCount rows)
 
@@ -92,7 +91,7 @@ span-same x y e t zero = refl
 span-same x y e t (suc n) = ap₂ (λ (m : ℕ) (ms : List ℕ). m ∷ ms) (e t) (span-same x y e (suc t) n)
 
 lines-same : (machines : ℕ) (among among′ : List Job) → ((n t : ℕ) → plan machines among n t ≡ plan machines among′ n t)
-  → (jobs : List Job) → linesByNumber machines among jobs ≡ linesByNumber machines among′ jobs
+    → (jobs : List Job) → linesByNumber machines among jobs ≡ linesByNumber machines among′ jobs
 unfolding runLineOf
 lines-same machines among among′ e [] = refl
 lines-same machines among among′ e (j ∷ jobs) =

@@ -28,7 +28,6 @@ pub mod Seatwise
 pub mod CallEffects
 pub mod ReadOff
 pub mod HistoryKept
-pub mod WorkedDesk
 pub mod Theorems
 pub mod Starred
 pub mod Lines
@@ -41,3 +40,4 @@ pub mod FileIsRead
 pub mod FileJobs
 pub mod Printing
 pub mod FileOrder
+pub mod TextSize

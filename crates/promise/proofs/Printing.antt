@@ -3,13 +3,13 @@ use Prim.Native.Nat.{ℕ, zero, suc, _+_, _*_, _≤_, _<_}
 use native.Mathlib.Decide.{ℕ-discrete}
 use native.Mathlib.Omega.{arith}
 use mathlib.Core.Path.{_≡_, refl, sym, _∙_, ap, ap₂}
-use mathlib.Core.Logic.{_≢_, _↔_}
+use mathlib.Core.Logic.{_≢_}
 use mathlib.Core.Bool.{Bool, true, false, cond}
-use mathlib.Core.List.{List, [], _∷_, _++_, map, List·Memᴰ, List·Memᴰ·head, List·Memᴰ·tail}
+use mathlib.Core.List.{List, [], _∷_, map, List·Memᴰ, List·Memᴰ·head, List·Memᴰ·tail}
 use lib.Dec.{ltb}
 use lib.ListN.{length}
 use borrow.Author.Tests.{lt-ltb, le-ltb, eq-eqb, ne-eqb, ltb-true, ltb-false}
-use Rattle.model.specs.Lists.{All, Rising, span}
+use Rattle.model.specs.Lists.{Rising, span}
 use Rattle.model.specs.Jobs.{Job, counted}
 use Rattle.model.specs.Rule.{plan, planRows}
 use Rattle.model.proofs.Lists.{All-mem}
@@ -17,27 +17,27 @@ use Rattle.model.proofs.Rows.{rows-are-the-plan}
 use Rattle.promise.specs.declared.LineKind.the-variants.{MachinesLine, JobLine}
 use Rattle.promise.specs.Answers.{refusal}
 use Rattle.promise.specs.Rows.{rowCount, jobsOf, listOrder}
-use Rattle.promise.specs.Lists.{planned, planAnswer}
+use Rattle.promise.specs.Lists.{planned}
 use Rattle.promise.specs.Texts.{ascii, ended}
-use Rattle.promise.specs.JobFile.{numberLine, Group, File, fileText, Typed, BadLine, fileSays, numbersOf}
-use Rattle.promise.specs.PlanText.{refusalText, pairText, pairsFrom, runLine, jobsLines, plannedText, rowsAnswer, rowsText, textSaid, planText, TextPromise, runLineOf, linesByNumber}
-use Rattle.promise.specs.TextClaims.{fileJobs, fileAnswer, printedPlan, TextIsPrinted, PairsAreTheSlotsInUse, LabelsPlayNoPart}
+use Rattle.promise.specs.JobFile.{numberLine, File, fileText, Typed, fileSays, numbersOf}
+use Rattle.promise.specs.PlanText.{refusalText, pairText, pairsFrom, runLine, jobsLines, plannedText, rowsAnswer, rowsText, textSaid, planText, runLineOf, linesByNumber}
+use Rattle.promise.specs.TextClaims.{printedPlan, TextIsPrinted, PairsAreTheSlotsInUse, LabelsPlayNoPart}
 use Rattle.promise.proofs.Sound.{Passes, planned-distinct, planned-deadlines, yes-passes}
 use Rattle.promise.proofs.FileRead.{says-file, bad-said}
 use Rattle.promise.proofs.FileJobs.{jobs-of-file, numbers-by-jobs}
 
 -- a text that is not too long
-short-text : (bytes : List ℕ) → length bytes ≤ 4096 → planText bytes ≡ textSaid (fileSays bytes)
+pub short-text : (bytes : List ℕ) → length bytes ≤ 4096 → planText bytes ≡ textSaid (fileSays bytes)
 unfolding planText
 short-text bytes l = rw (le-ltb 4096 (length bytes) l) refl
 
-long-text : (bytes : List ℕ) → 4096 < length bytes → planText bytes ≡ refusalText (refusal 14 0 0)
+pub long-text : (bytes : List ℕ) → 4096 < length bytes → planText bytes ≡ refusalText (refusal 14 0 0)
 unfolding planText
 long-text bytes l = rw (lt-ltb 4096 (length bytes) l) refl
 
 -- the text of a file is that of its rows
 pub file-text : (f : File) → Typed f → (bytes : List ℕ) → length bytes ≤ 4096 → fileText f ≡ bytes
-  → planText bytes ≡ rowsText (f .machines) (numbersOf (f .groups))
+    → planText bytes ≡ rowsText (f .machines) (numbersOf (f .groups))
 file-text f t bytes l e = short-text bytes l ∙ ap textSaid (ap fileSays (sym e) ∙ says-file f t)
 
 pub refused-text : (machines : ℕ) (rows : List ℕ) → (rowsAnswer machines rows) .number ≢ 0 → rowsText machines rows ≡ refusalText (rowsAnswer machines rows)
@@ -50,7 +50,7 @@ planned-text machines rows h = rw (eq-eqb ((rowsAnswer machines rows) .number) 0
 
 -- the lines of rows that stand one for each job, as they count
 lines-match : (machines : ℕ) (among jobs : List Job)
-  → jobsLines jobs (map (λ (j : Job). span 1 168 (plan machines among (j .number))) (counted machines jobs)) ≡ linesByNumber machines among jobs
+    → jobsLines jobs (map (λ (j : Job). span 1 168 (plan machines among (j .number))) (counted machines jobs)) ≡ linesByNumber machines among jobs
 unfolding runLineOf counted
 lines-match machines among [] = refl
 lines-match machines among (j ∷ jobs) =
@@ -58,7 +58,7 @@ lines-match machines among (j ∷ jobs) =
     (lines-match machines among jobs)
 
 lines-planned : (machines : ℕ) (rows : List ℕ) → Passes machines rows (listOrder rows)
-  → jobsLines (jobsOf rows) (planRows machines (planned machines rows)) ≡ linesByNumber machines (planned machines rows) (jobsOf rows)
+    → jobsLines (jobsOf rows) (planRows machines (planned machines rows)) ≡ linesByNumber machines (planned machines rows) (jobsOf rows)
 unfolding planned
 lines-planned machines rows h =
     ap (jobsLines (jobsOf rows)) (rows-are-the-plan machines (planned machines rows) (planned-distinct machines rows h) (planned-deadlines machines rows h))
@@ -66,7 +66,7 @@ lines-planned machines rows h =
 
 -- what is printed for a list that is planned
 pub printed-rows : (machines : ℕ) (rows : List ℕ) → (rowsAnswer machines rows) .number ≡ 0
-  → plannedText machines rows ≡ printedPlan machines (jobsOf rows) (jobsOf rows)
+    → plannedText machines rows ≡ printedPlan machines (jobsOf rows) (jobsOf rows)
 unfolding plannedText rowsAnswer planned
 printed-rows machines rows e =
     ap (λ (ls : List (List ℕ)). ended (numberLine MachinesLine machines ∷ ascii "result=plan" ∷ ls))

@@ -1,6 +1,8 @@
--- The headline statements of specs/Claims.antt and specs/DeskClaims.antt, one theorem each.
+-- The headline statements of specs/Claims.antt, DeskClaims.antt, TextClaims.antt and Starred.antt, one theorem each.
 use Rattle.promise.specs.Claims.{WindowReadsTheNumbers, WindowTakesSixteenARow, WindowCountsBytes, WindowCountsMachinesFirst, YesWritesThePlan, RefusalWritesNothing, PlanAnswersByTheTable, RoomAnswersByTheTable, PlanSevenIsTrue, RoomFigureIsTheRoom, RowOrderPlaysNoPart, PlanPromiseLeavesOne, RoomPromiseLeavesOne, AnswersPack, PackingIsOneToOne, RoomIsReadBack, WindowWritesThePlan, WindowPromisesLeaveOne}
 use Rattle.promise.specs.DeskClaims.{SoundIsTested, DeskAnswersByTheTable, SoundnessIsKept, RefusalHandsTheDeskBack, AdmitSevenIsTrue, RunGivesOutThePlan, DeskCallsLeaveOne, OpenAnswersByTheTable, SeatsAreToldAndKept, DemandThree}
+use Rattle.promise.specs.TextClaims.{NumbersAreReadBack, NumbersArePrintedBack, FileIsRead, FilesHaveTheirOwnText, TextIsPrinted, FilesAreNoTwoNorSix, PairsAreTheSlotsInUse, LabelsPlayNoPart, FileOrderPlaysNoPart, TextFits, TextPromisesLeaveOne}
+use Rattle.promise.specs.Starred.{StarredCasesComeOut}
 use Rattle.promise.proofs.Buffer
 use Rattle.promise.proofs.Table
 use Rattle.promise.proofs.Fit
@@ -19,8 +21,14 @@ use Rattle.promise.proofs.DeskRun
 use Rattle.promise.proofs.DeskUnique
 use Rattle.promise.proofs.Seatwise
 use Rattle.promise.proofs.HistoryKept
-use Rattle.promise.proofs.WorkedDesk
-use Rattle.promise.specs.WorkedDesk.{DeskOfTwo}
+use Rattle.promise.proofs.Digits
+use Rattle.promise.proofs.FileLines
+use Rattle.promise.proofs.FileIsRead
+use Rattle.promise.proofs.FileJobs
+use Rattle.promise.proofs.Printing
+use Rattle.promise.proofs.FileOrder
+use Rattle.promise.proofs.TextSize
+use Rattle.promise.proofs.Starred
 
 -- P1
 pub yes-writes-the-plan : YesWritesThePlan
@@ -121,6 +129,42 @@ desk-calls-leave-one = DeskUnique.desk-calls-leave-one
 pub demand-three : DemandThree
 demand-three = HistoryKept.demand-three
 
--- D1
-pub desk-of-two : DeskOfTwo
-desk-of-two = WorkedDesk.desk-of-two
+-- P1 to P10 and D1
+pub starred-cases-come-out : StarredCasesComeOut
+starred-cases-come-out = Starred.starred-cases-come-out
+
+-- numbers as texts
+pub numbers-are-read-back : NumbersAreReadBack
+numbers-are-read-back = Digits.numbers-are-read-back
+
+pub numbers-are-printed-back : NumbersArePrintedBack
+numbers-are-printed-back = Digits.numbers-are-printed-back
+
+-- J
+pub file-is-read : FileIsRead
+file-is-read = FileIsRead.file-is-read
+
+pub files-have-their-own-text : FilesHaveTheirOwnText
+files-have-their-own-text = FileLines.files-have-their-own-text
+
+-- T
+pub text-is-printed : TextIsPrinted
+text-is-printed = Printing.text-is-printed
+
+pub files-are-no-two-nor-six : FilesAreNoTwoNorSix
+files-are-no-two-nor-six = FileJobs.files-are-no-two-nor-six
+
+pub pairs-are-the-slots-in-use : PairsAreTheSlotsInUse
+pairs-are-the-slots-in-use = Printing.pairs-are-the-slots-in-use
+
+pub labels-play-no-part : LabelsPlayNoPart
+labels-play-no-part = Printing.labels-play-no-part
+
+pub file-order-plays-no-part : FileOrderPlaysNoPart
+file-order-plays-no-part = FileOrder.file-order-plays-no-part
+
+pub text-fits : TextFits
+text-fits = TextSize.text-fits
+
+pub text-promises-leave-one : TextPromisesLeaveOne
+text-promises-leave-one = Unique.text-promises-leave-one

@@ -10,6 +10,6 @@ pub mod Texts
 pub mod JobFile
 pub mod PlanText
 pub mod TextClaims
+pub mod Starred
 pub mod DeskClaims
-pub mod WorkedDesk
 pub mod Claims

@@ -1,9 +1,9 @@
 -- The headline statements about the job file and the printed text, each a proposition with a name. proofs/Theorems.antt has one
 -- theorem for each.
-use Prim.Native.Nat.{ℕ, _*_, _≤_, _<_}
+use Prim.Native.Nat.{ℕ, _≤_, _<_}
 use mathlib.Core.Path.{_≡_}
 use mathlib.Core.Logic.{_≢_, _⊎_, _↔_}
-use mathlib.Core.List.{List, [], _∷_, map, List·Memᴰ}
+use mathlib.Core.List.{List, _∷_, map, List·Memᴰ}
 use mathlib.Core.Option.{some, none}
 use lib.ListN.{length}
 use Rattle.model.specs.Lists.{Perm, Rising, span}
