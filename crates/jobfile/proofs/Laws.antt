@@ -4,7 +4,7 @@ use native.Mathlib.Nat.{pow-succ', pow-le-pow-right}
 use native.Mathlib.Omega.{arith}
 use mathlib.Core.Path.{_≡_, refl, sym, _∙_, ap}
 use mathlib.Core.Logic.{_≢_, _⊎_, ⊎-elim}
-use mathlib.Core.Bool.{Bool, true, false, cond, _&&_, or-true}
+use mathlib.Core.Bool.{Bool, true, false, cond, _&&_, and-false, or-true}
 use mathlib.Core.List.{List, [], _∷_}
 use mathlib.Core.Option.{Option, some, none}
 use lib.Dec.{leb, eqb}
@@ -144,25 +144,24 @@ module _ (text : List ℕ) where
     unfolding readNumber isNumber
     number-long h = rw (le-leb 1 (length text) low, lt-leb (length text) 7 h) refl
 
-    module _ (high : length text ≤ 7) where
-      pub number-zero : 1 < length text → getD text 0 0 ≡ 48 → none ≡ numberTold (readNumber text)
-      unfolding readNumber isNumber
-      number-zero h e = rw (le-leb 1 (length text) low, le-leb (length text) 7 high, eq-eqb (getD text 0 0) 48 e, ne-eqb (length text) 1 (omega arith)) refl
+    pub number-zero : 1 < length text → getD text 0 0 ≡ 48 → none ≡ numberTold (readNumber text)
+    unfolding readNumber isNumber
+    number-zero h e = rw (le-leb 1 (length text) low, eq-eqb (getD text 0 0) 48 e, ne-eqb (length text) 1 (omega arith), and-false) refl
 
-      module _ (first : (getD text 0 0 ≢ 48) ⊎ (length text ≡ 1)) where
-        digits-only : isNumber text ≡ allWithin 48 57 text
-        unfolding isNumber
-        digits-only =
-            rw (le-leb 1 (length text) low, le-leb (length text) 7 high)
-            (⊎-elim (λ h. rw (ne-eqb (getD text 0 0) 48 h) refl) (λ e. rw (eq-eqb (length text) 1 e, or-true) refl) first)
+    module _ (high : length text ≤ 7) (first : (getD text 0 0 ≢ 48) ⊎ (length text ≡ 1)) where
+      digits-only : isNumber text ≡ allWithin 48 57 text
+      unfolding isNumber
+      digits-only =
+          rw (le-leb 1 (length text) low, le-leb (length text) 7 high)
+          (⊎-elim (λ h. rw (ne-eqb (getD text 0 0) 48 h) refl) (λ e. rw (eq-eqb (length text) 1 e, or-true) refl) first)
 
-        pub number-digits : allWithin 48 57 text ≡ true → some (valueFrom 0 text ∷ []) ≡ numberTold (readNumber text)
-        unfolding readNumber
-        number-digits e = rw (digits-only, e) refl
+      pub number-digits : allWithin 48 57 text ≡ true → some (valueFrom 0 text ∷ []) ≡ numberTold (readNumber text)
+      unfolding readNumber
+      number-digits e = rw (digits-only, e) refl
 
-        pub number-other : allWithin 48 57 text ≡ false → none ≡ numberTold (readNumber text)
-        unfolding readNumber
-        number-other e = rw (digits-only, e) refl
+      pub number-other : allWithin 48 57 text ≡ false → none ≡ numberTold (readNumber text)
+      unfolding readNumber
+      number-other e = rw (digits-only, e) refl
 
 -- a label, test by test
 module _ (text : List ℕ) where

@@ -24,7 +24,7 @@ shared-slice-read-if4 c = search needs
 
 returns-3 : tie.Need-returns-3
 returns-3 c =
-    number-zero (c .before .before .before .before .before .before .args .text .now) (omega arith) (omega arith) (omega arith) (c .if4 .taken)
+    number-zero (c .before .before .before .before .before .before .args .text .now) (omega arith) (omega arith) (c .if4 .taken)
 
 within-requires : tie.Need-within-requires
 within-requires c κs = search needs
