@@ -1,5 +1,5 @@
 -- The longest text fits: 32 jobs, each with a pair for all 168 slots, need less than 40,960 bytes.
-use Prim.Native.Nat.{ℕ, zero, suc, _+_, _*_, _≤_, _<_}
+use Prim.Native.Nat.{ℕ, zero, suc, _+_, _*_, _-_, _≤_, _<_}
 use native.Mathlib.Decide.{decLt, ℕ-discrete}
 use native.Mathlib.Omega.{arith}
 use mathlib.Core.Path.{_≡_, refl, sym, _∙_, ap}
@@ -7,7 +7,8 @@ use mathlib.Core.Bool.{Bool, true, false, cond}
 use mathlib.Core.List.{List, [], _∷_, _++_, List·Memᴰ}
 use mathlib.Core.Option.{Option, some, none}
 use lib.Dec.{ltb}
-use lib.ListN.{length, getD, drop, length-append}
+use lib.ListN.{length, getD, take, drop, replicate, length-append, length-take}
+use lib.Seq.{length-take-le}
 use Rattle.model.specs.Lists.{total, All, span}
 use Rattle.model.specs.Jobs.{Job, numbers, counted}
 use Rattle.model.specs.Boundaries.{RoomEverywhere, Short, leastShort}
@@ -16,12 +17,13 @@ use Rattle.model.proofs.Lists.{le-sum, All-mem, All-at, All-under}
 use Rattle.model.proofs.LeastShort.{none-short-is-named}
 use Rattle.model.proofs.Exactly.{plan-is-valid}
 use Rattle.promise.specs.declared.Answer.{Answer}
+use Rattle.promise.specs.declared.Text.{Text}
 use Rattle.promise.specs.Answers.{refusal, fitAnswer}
 use Rattle.promise.specs.Rows.{rowCount, jobsOf, listFault, listOrder}
 use Rattle.promise.specs.Lists.{planned, Holds, answerOf}
-use Rattle.promise.specs.Texts.{ascii, decimal, ended}
+use Rattle.promise.specs.Texts.{ascii, decimal, ended, padded}
 use Rattle.promise.specs.JobFile.{Said, bad, says, fileSays}
-use Rattle.promise.specs.PlanText.{refusalText, pairText, pairsFrom, eachAfterComma, withCommas, runLine, rowsAnswer, rowsText, textSaid, planText, runLineOf, linesByNumber}
+use Rattle.promise.specs.PlanText.{refusalText, pairText, pairsFrom, eachAfterComma, withCommas, runLine, rowsAnswer, rowsText, textSaid, planText, runLineOf, linesByNumber, TextPromise}
 use Rattle.promise.specs.TextClaims.{printedPlan, TextFits}
 use Rattle.promise.proofs.Ladder.{same-number, none-holds}
 use Rattle.promise.proofs.Table.{gives-list}
@@ -167,3 +169,19 @@ text-fits bytes = go (decLt 4096 (length bytes))
     go : Dec (4096 < length bytes) → length (planText bytes) ≤ 40960
     go (yes l) = rw (long-text bytes l) (omega (arith, refusal-size (refusal 14 0 0)))
     go (no h) = rw (short-text bytes (omega arith)) (said-size (fileSays bytes))
+
+-- a text's count is within its bytes
+pub text-counts : (bytes : List ℕ) (x : Text) → TextPromise bytes x → (x .len ≤ length (x .bytes)) × (x .len ≡ length (take (x .len) (x .bytes)))
+unfolding padded
+text-counts bytes x p = (within, sym (length-take-le (x .len) (x .bytes) within))
+  where
+    within : x .len ≤ length (x .bytes)
+    within =
+        omega (
+          arith,
+          p .counted,
+          text-fits bytes,
+          ap (λ (b : List ℕ). length b) (p .printed),
+          length-take 40960 (planText bytes),
+          length-append (take 40960 (planText bytes)) (replicate (40960 - length (planText bytes)) 0),
+        )
