@@ -7,7 +7,7 @@ use mathlib.Core.Bool.{Bool, true, false, cond}
 use mathlib.Core.List.{List, [], _∷_, _++_, List·Memᴰ}
 use mathlib.Core.Option.{Option, some, none}
 use lib.Dec.{ltb}
-use lib.ListN.{length, getD, take, drop, replicate, length-append, length-take}
+use lib.ListN.{length, getD, take, drop, replicate, length-append, length-take, length-replicate}
 use lib.Seq.{length-take-le}
 use Rattle.model.specs.Lists.{total, All, span}
 use Rattle.model.specs.Jobs.{Job, numbers, counted}
@@ -170,18 +170,16 @@ text-fits bytes = go (decLt 4096 (length bytes))
     go (yes l) = rw (long-text bytes l) (omega (arith, refusal-size (refusal 14 0 0)))
     go (no h) = rw (short-text bytes (omega arith)) (said-size (fileSays bytes))
 
+padded-length : (n : ℕ) (xs : List ℕ) → length (padded n xs) ≡ n
+unfolding padded
+padded-length n xs = omega (arith, length-append (take n xs) (replicate (n - length xs) 0), length-take n xs, length-replicate {A = ℕ} (n - length xs) 0)
+
 -- a text's count is within its bytes
 pub text-counts : (bytes : List ℕ) (x : Text) → TextPromise bytes x → (x .len ≤ length (x .bytes)) × (x .len ≡ length (take (x .len) (x .bytes)))
-unfolding padded
 text-counts bytes x p = (within, sym (length-take-le (x .len) (x .bytes) within))
   where
+    whole : length (x .bytes) ≡ 40960
+    whole = ap length (p .printed) ∙ padded-length 40960 (planText bytes)
+
     within : x .len ≤ length (x .bytes)
-    within =
-        omega (
-          arith,
-          p .counted,
-          text-fits bytes,
-          ap (λ (b : List ℕ). length b) (p .printed),
-          length-take 40960 (planText bytes),
-          length-append (take 40960 (planText bytes)) (replicate (40960 - length (planText bytes)) 0),
-        )
+    within = omega (arith, p .counted, text-fits bytes, whole)
