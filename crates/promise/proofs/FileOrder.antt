@@ -52,11 +52,11 @@ unfolding jobsOf
 jobs-length rows = sym (length-map (jobsOf rows) (λ (j : Job). j .number)) ∙ numbers-length rows 0 (rowCount rows)
 
 -- every field of a job is in range
-abbrev Right : Job → Type 0
+abbrev pub Right : Job → Type 0
 Right j = (f : Field) → ¬ OutOfRange listWindow f j
 
 module _ (machines : ℕ) (rows : List ℕ) where
-  rows-right : (i n : ℕ) → Passes machines rows (rowsTests i n) → All Right (jobRows rows i n)
+  pub rows-right : (i n : ℕ) → Passes machines rows (rowsTests i n) → All Right (jobRows rows i n)
   rows-right i zero h = tt
   rows-right i (suc n) h = (right, rows-right (suc i) n (h .1 .1 .1 .1 .1))
     where

@@ -22,24 +22,33 @@ use Rattle.promise.proofs.Table.{refuses, gives-list}
 use Rattle.promise.proofs.Sound.{Passes, planned-deadlines}
 use Rattle.promise.proofs.Bounds.{planned-forced, boundary-le, shortage-le}
 
-yes-packs : Packs yes
-yes-packs = record { number = omega arith; place = omega arith; amount = omega arith }
+-- no answer on a list names a place above 168 or an amount above all the work
+pub record Small (a : Answer) : Type 0 where
+  pub number : a .number < 256
+  pub place : a .place ≤ 168
+  pub amount : a .amount ≤ 1920000
 
-fault-packs : (t : Bool) (a : Answer) → Packs a → Packs (fault t a)
-fault-packs true a p = p
-fault-packs false a p = yes-packs
+small-packs : {a : Answer} → Small a → Packs a
+small-packs s = record { number = s .number; place = omega (arith, s .place); amount = omega (arith, s .amount) }
+
+yes-small : Small yes
+yes-small = record { number = omega arith; place = omega arith; amount = omega arith }
+
+fault-small : (t : Bool) (a : Answer) → Small a → Small (fault t a)
+fault-small true a p = p
+fault-small false a p = yes-small
 
 -- the second only comes where the first is no refusal
-first-packs : (a b : Answer) → Packs a → (a .number ≡ 0 → Packs b) → Packs (first a b)
-first-packs a b p f = go (eqb (a .number) 0) refl
+first-small : (a b : Answer) → Small a → (a .number ≡ 0 → Small b) → Small (first a b)
+first-small a b p f = go (eqb (a .number) 0) refl
   where
-    go : (t : Bool) → eqb (a .number) 0 ≡ t → Packs (cond t b a)
+    go : (t : Bool) → eqb (a .number) 0 ≡ t → Small (cond t b a)
     go true e = f (eqb-true (a .number) 0 e)
     go false e = p
 
 -- a refusal of the list as a whole
-whole-packs : (t : Bool) (q : ℕ) → q < 256 → Packs (fault t (refusal q 0 0))
-whole-packs t q l = fault-packs t (refusal q 0 0) (record { number = l; place = omega arith; amount = omega arith })
+whole-small : (t : Bool) (q : ℕ) → q < 256 → Small (fault t (refusal q 0 0))
+whole-small t q l = fault-small t (refusal q 0 0) (record { number = l; place = omega arith; amount = omega arith })
 
 field-few : (f : Field) → fieldNumber f ≤ 4
 field-few the-number = omega arith
@@ -49,30 +58,30 @@ field-few the-bound = omega arith
 
 -- row i, one of at most 32
 module _ (rows : List ℕ) (i : ℕ) (l : i < 32) where
-  field-packs : (f : Field) → Packs (fieldFault listWindow i f (rowAt rows i))
+  field-small : (f : Field) → Small (fieldFault listWindow i f (rowAt rows i))
   unfolding fieldFault
-  field-packs f =
+  field-small f =
       let v : ℕ = fieldOf f (rowAt rows i) in
-      fault-packs (ltb v (least listWindow f) || ltb (greatest listWindow f) v) (refusal 4 i (fieldNumber f))
+      fault-small (ltb v (least listWindow f) || ltb (greatest listWindow f) v) (refusal 4 i (fieldNumber f))
       (record { number = omega arith; place = omega arith; amount = omega (arith, field-few f) })
 
-  fields-pack : Packs (fieldsFault listWindow i (rowAt rows i))
+  fields-small : Small (fieldsFault listWindow i (rowAt rows i))
   unfolding fieldsFault
-  fields-pack =
-      first-packs _ _ (field-packs the-number)
-      (λ _. first-packs _ _ (field-packs the-work) (λ _. first-packs _ _ (field-packs the-deadline) (λ _. field-packs the-bound)))
+  fields-small =
+      first-small _ _ (field-small the-number)
+      (λ _. first-small _ _ (field-small the-work) (λ _. first-small _ _ (field-small the-deadline) (λ _. field-small the-bound)))
 
-  seen-packs : Packs (seenFault rows i)
+  seen-small : Small (seenFault rows i)
   unfolding seenFault
-  seen-packs =
-      fault-packs (seenBefore rows ((rowAt rows i) .number) i) (refusal 5 i 0)
+  seen-small =
+      fault-small (seenBefore rows ((rowAt rows i) .number) i) (refusal 5 i 0)
       (record { number = omega arith; place = omega arith; amount = omega arith })
 
-rows-pack : (rows : List ℕ) (i n : ℕ) → i + n ≤ 32 → Packs (rowsFault rows i n)
-rows-pack rows i zero l = yes-packs
-rows-pack rows i (suc n) l =
+rows-small : (rows : List ℕ) (i n : ℕ) → i + n ≤ 32 → Small (rowsFault rows i n)
+rows-small rows i zero l = yes-small
+rows-small rows i (suc n) l =
     let here : i < 32 = omega arith in
-    first-packs _ _ (first-packs _ _ (fields-pack rows i here) (λ _. seen-packs rows i here)) (λ _. rows-pack rows (suc i) n (omega arith))
+    first-small _ _ (first-small _ _ (fields-small rows i here) (λ _. seen-small rows i here)) (λ _. rows-small rows (suc i) n (omega arith))
 
 -- no 3 is answered: at most 32 rows
 not-many : (rows : List ℕ) → (manyFault rows) .number ≡ 0 → rowCount rows ≤ 32
@@ -83,23 +92,23 @@ not-many rows = go (ltb 32 (rowCount rows)) refl
     go true e z = absurd (omega arith)
     go false e z = omega (arith, ltb-false 32 (rowCount rows) e)
 
-count-packs : (machines : ℕ) → Packs (countFault machines)
+count-small : (machines : ℕ) → Small (countFault machines)
 unfolding countFault
-count-packs machines = whole-packs (ltb machines 1 || ltb 64 machines) 1 (omega arith)
+count-small machines = whole-small (ltb machines 1 || ltb 64 machines) 1 (omega arith)
 
 module _ (machines : ℕ) (rows : List ℕ) where
-  list-packs : Packs (listFault machines rows)
+  list-small : Small (listFault machines rows)
   unfolding listFault lengthFault manyFault
-  list-packs =
-      first-packs _ _ (count-packs machines)
-      (λ _. first-packs _ _ (whole-packs (not (eqb (length rows % 4) 0)) 2 (omega arith))
-      (λ _. first-packs _ _ (whole-packs (ltb 32 (rowCount rows)) 3 (omega arith))
-      (λ z. rows-pack rows 0 (rowCount rows) (omega (arith, not-many rows z)))))
+  list-small =
+      first-small _ _ (count-small machines)
+      (λ _. first-small _ _ (whole-small (not (eqb (length rows % 4) 0)) 2 (omega arith))
+      (λ _. first-small _ _ (whole-small (ltb 32 (rowCount rows)) 3 (omega arith))
+      (λ z. rows-small rows 0 (rowCount rows) (omega (arith, not-many rows z)))))
 
   -- a boundary is at most 168, and a shortage at most all the work
-  fit-packs : Passes machines rows (listOrder rows) → (o : Option Short) → leastShort machines (planned machines rows) ≡ o → Packs (fitAnswer o)
-  fit-packs h none e = yes-packs
-  fit-packs h (some s) e =
+  fit-small : Passes machines rows (listOrder rows) → (o : Option Short) → leastShort machines (planned machines rows) ≡ o → Small (fitAnswer o)
+  fit-small h none e = yes-small
+  fit-small h (some s) e =
       let jobs : List Job = planned machines rows in
       let l = least-short-is-named machines jobs s .0 e in
       record {
@@ -108,33 +117,33 @@ module _ (machines : ℕ) (rows : List ℕ) where
         amount = omega (arith, shortage-le machines jobs s l, planned-forced machines rows h (s .place));
       }
 
-  plan-packs : (size : ℕ) → Packs (planAnswer machines rows size)
+  pub plan-small : (size : ℕ) → Small (planAnswer machines rows size)
   unfolding planAnswer
-  plan-packs size =
-      first-packs _ _ list-packs
-      (λ z. first-packs _ _ (whole-packs (ltb size (168 * rowCount rows)) 6 (omega arith))
-      (λ _. fit-packs (passes z) (leastShort machines (planned machines rows)) refl))
+  plan-small size =
+      first-small _ _ list-small
+      (λ z. first-small _ _ (whole-small (ltb size (168 * rowCount rows)) 6 (omega arith))
+      (λ _. fit-small (passes z) (leastShort machines (planned machines rows)) refl))
     where
       passes : (listFault machines rows) .number ≡ 0 → Passes machines rows (listOrder rows)
       passes z =
           zero-none (Holds machines rows) (answerOf machines rows) (refuses machines rows) (listOrder rows) (listFault machines rows) z
           (gives-list machines rows)
 
-  room-packs : (b : ℕ) → Packs (roomAnswer machines rows b)
+  room-small : (b : ℕ) → Small (roomAnswer machines rows b)
   unfolding roomAnswer
-  room-packs b = first-packs _ _ list-packs (λ _. whole-packs (ltb 168 b) 9 (omega arith))
+  room-small b = first-small _ _ list-small (λ _. whole-small (ltb 168 b) 9 (omega arith))
 
-  bytes-pack : Packs (bytesFault machines rows)
+  bytes-small : Small (bytesFault machines rows)
   unfolding bytesFault
-  bytes-pack = first-packs _ _ (count-packs machines) (λ _. whole-packs (not (eqb (length rows % 16) 0)) 2 (omega arith))
+  bytes-small = first-small _ _ (count-small machines) (λ _. whole-small (not (eqb (length rows % 16) 0)) 2 (omega arith))
 
 pub answers-pack : AnswersPack
 unfolding windowAnswer roomWindowAnswer
 answers-pack machines rows size = (
-  plan-packs machines rows size,
-  room-packs machines rows size,
-  first-packs _ _ (bytes-pack machines rows) (λ _. plan-packs machines (wordsOf rows) _),
-  first-packs _ _ (bytes-pack machines rows) (λ _. room-packs machines (wordsOf rows) size),
+  small-packs (plan-small machines rows size),
+  small-packs (room-small machines rows size),
+  small-packs (first-small _ _ (bytes-small machines rows) (λ _. plan-small machines (wordsOf rows) _)),
+  small-packs (first-small _ _ (bytes-small machines rows) (λ _. room-small machines (wordsOf rows) size)),
 )
 
 pub packing-is-one-to-one : PackingIsOneToOne

@@ -2,7 +2,8 @@
 use Prim.Native.Nat.{ℕ, zero, suc, _+_, _*_, _-_, _≤_, _<_}
 use native.Mathlib.Decide.{decLt, ℕ-discrete}
 use native.Mathlib.Omega.{arith}
-use mathlib.Core.Path.{_≡_, refl, sym, _∙_, ap}
+use mathlib.Core.Path.{_≡_, refl, sym, _∙_, ap, subst}
+use mathlib.Core.Logic.{inr}
 use mathlib.Core.Bool.{Bool, true, false, cond}
 use mathlib.Core.List.{List, [], _∷_, _++_, List·Memᴰ}
 use mathlib.Core.Option.{Option, some, none}
@@ -13,24 +14,26 @@ use Rattle.model.specs.Lists.{total, All, span}
 use Rattle.model.specs.Jobs.{Job, numbers, counted}
 use Rattle.model.specs.Boundaries.{RoomEverywhere, Short, leastShort}
 use Rattle.model.specs.Rule.{plan}
-use Rattle.model.proofs.Lists.{le-sum, All-mem, All-at, All-under}
+use Rattle.model.proofs.Lists.{le-sum, All-mem, All-at, All-under, All-both, All-over}
 use Rattle.model.proofs.LeastShort.{none-short-is-named}
 use Rattle.model.proofs.Exactly.{plan-is-valid}
 use Rattle.promise.specs.declared.Answer.{Answer}
 use Rattle.promise.specs.declared.Text.{Text}
 use Rattle.promise.specs.Answers.{refusal, fitAnswer}
-use Rattle.promise.specs.Rows.{rowCount, jobsOf, listFault, listOrder}
+use Rattle.promise.specs.Rows.{rowCount, jobsOf, listFault, listOrder, the-number}
 use Rattle.promise.specs.Lists.{planned, Holds, answerOf}
 use Rattle.promise.specs.Texts.{ascii, decimal, ended, padded}
-use Rattle.promise.specs.JobFile.{Said, bad, says, fileSays}
+use Rattle.promise.specs.JobFile.{Said, bad, says, fileSays, File, BadLine, numbersOf}
 use Rattle.promise.specs.PlanText.{refusalText, pairText, pairsFrom, eachAfterComma, withCommas, runLine, rowsAnswer, rowsText, textSaid, planText, runLineOf, linesByNumber, TextPromise}
-use Rattle.promise.specs.TextClaims.{printedPlan, TextFits}
+use Rattle.promise.specs.TextClaims.{printedPlan, TextFits, PrintsWhole, PrintedNumbersAreWhole}
 use Rattle.promise.proofs.Ladder.{same-number, none-holds}
 use Rattle.promise.proofs.Table.{gives-list}
 use Rattle.promise.proofs.Sound.{Passes, planned-numbers, planned-distinct, few-machines, few-rows, answers-fit, yes-passes}
 use Rattle.promise.proofs.Digits.{decimal-digits, decimal-short}
+use Rattle.promise.proofs.Packing.{plan-small}
+use Rattle.promise.proofs.FileJobs.{jobs-of-file}
 use Rattle.promise.proofs.Printing.{long-text, short-text, refused-text, planned-text, printed-rows}
-use Rattle.promise.proofs.FileOrder.{jobs-length}
+use Rattle.promise.proofs.FileOrder.{jobs-length, Right, rows-right}
 
 -- one line, and its newline
 line-size : (line : List ℕ) (lines : List (List ℕ)) → length (ended (line ∷ lines)) ≡ length line + 1 + length (ended lines)
@@ -138,6 +141,16 @@ module _ (machines : ℕ) (rows : List ℕ) (z : (rowsAnswer machines rows) .num
                 (le-sum (λ (i : Job). plan machines (planned machines rows) (i .number) t) 0 (planned machines rows)) m,
           )
 
+  jobs-small : All (λ j. (j .number ≤ 65535) × Slim machines (counted machines (jobsOf rows)) (j .number)) (jobsOf rows)
+  unfolding planned listOrder jobsOf
+  jobs-small =
+      All-both small (jobsOf rows) (rows-right machines rows 0 (rowCount rows) (passes .1 .1 .1))
+      (All-over (λ (j : Job). j .number) (Slim machines (counted machines (jobsOf rows))) (jobsOf rows) (rw (← planned-numbers machines rows) all-slim))
+    where
+      small : (j : Job) → Right j → Slim machines (counted machines (jobsOf rows)) (j .number)
+          → (j .number ≤ 65535) × Slim machines (counted machines (jobsOf rows)) (j .number)
+      small j r s = let most : ¬ (65535 < j .number) = λ l. r the-number (inr l) in (omega arith, s)
+
   plan-size : length (printedPlan machines (jobsOf rows) (jobsOf rows)) ≤ 40960
   unfolding planned
   plan-size =
@@ -151,6 +164,31 @@ module _ (machines : ℕ) (rows : List ℕ) (z : (rowsAnswer machines rows) .num
         seven machines,
         length-append (decimal machines) (10 ∷ ended (ascii "result=plan" ∷ linesByNumber machines (counted machines jobs) jobs)),
       )
+
+-- the numbers that are printed
+lines-count : (lines : List (List ℕ)) → length lines ≤ length (ended lines)
+lines-count [] = omega arith
+lines-count (line ∷ lines) = omega (arith, lines-count lines, line-size line lines)
+
+bad-line-whole : (bytes : List ℕ) (ℓ : ℕ) → length bytes ≤ 4096 → BadLine bytes ℓ → ℓ ≤ 4097
+bad-line-whole bytes ℓ l b =
+    omega (arith, b .counted, lines-count (b .lines), ap (λ (x : List ℕ). length x) (b .split), length-append (ended (b .lines)) (b .after))
+
+prints-whole : (f : File) → PrintsWhole f
+unfolding rowsAnswer
+prints-whole f = record {
+  refusal-whole = let s = plan-small (f .machines) rows (168 * rowCount rows) in (omega (arith, s .number), omega (arith, s .place), omega (arith, s .amount));
+  count-whole = λ z. few-machines (f .machines) rows (passes (f .machines) rows z);
+  jobs-whole = λ z.
+      subst (λ (js : List Job). All (λ j. (j .number ≤ 65535) × Slim (f .machines) (counted (f .machines) js) (j .number)) js) (jobs-of-file (f .groups))
+      (jobs-small (f .machines) rows z);
+}
+  where
+    rows : List ℕ
+    rows = numbersOf (f .groups)
+
+pub printed-numbers-are-whole : PrintedNumbersAreWhole
+printed-numbers-are-whole = (bad-line-whole, prints-whole)
 
 rows-size : (machines : ℕ) (rows : List ℕ) → length (rowsText machines rows) ≤ 40960
 rows-size machines rows = go (ℕ-discrete ((rowsAnswer machines rows) .number) 0)

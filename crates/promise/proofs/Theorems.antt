@@ -1,7 +1,7 @@
 -- The headline statements of specs/Claims.antt, DeskClaims.antt, TextClaims.antt and Starred.antt, one theorem each.
 use Rattle.promise.specs.Claims.{WindowReadsTheNumbers, WindowTakesSixteenARow, WindowCountsBytes, WindowCountsMachinesFirst, YesWritesThePlan, RefusalWritesNothing, PlanAnswersByTheTable, RoomAnswersByTheTable, PlanSevenIsTrue, RoomFigureIsTheRoom, RowOrderPlaysNoPart, PlanPromiseLeavesOne, RoomPromiseLeavesOne, AnswersPack, PackingIsOneToOne, RoomIsReadBack, WindowWritesThePlan, WindowPromisesLeaveOne}
 use Rattle.promise.specs.DeskClaims.{SoundIsTested, DeskAnswersByTheTable, SoundnessIsKept, RefusalHandsTheDeskBack, AdmitSevenIsTrue, RunGivesOutThePlan, DeskCallsLeaveOne, OpenAnswersByTheTable, SeatsAreToldAndKept, DemandThree}
-use Rattle.promise.specs.TextClaims.{NumbersAreReadBack, NumbersArePrintedBack, FileIsRead, FilesHaveTheirOwnText, TextIsPrinted, FilesAreNoTwoNorSix, PairsAreTheSlotsInUse, LabelsPlayNoPart, FileOrderPlaysNoPart, TextFits, TextPromisesLeaveOne}
+use Rattle.promise.specs.TextClaims.{NumbersAreReadBack, NumbersArePrintedBack, FileIsRead, FilesHaveTheirOwnText, TextIsPrinted, FilesAreNoTwoNorSix, PrintedNumbersAreWhole, PairsAreTheSlotsInUse, LabelsPlayNoPart, FileOrderPlaysNoPart, TextFits, TextPromisesLeaveOne}
 use Rattle.promise.specs.Starred.{StarredCasesComeOut}
 use Rattle.promise.proofs.Buffer
 use Rattle.promise.proofs.Table
@@ -153,6 +153,9 @@ text-is-printed = Printing.text-is-printed
 
 pub files-are-no-two-nor-six : FilesAreNoTwoNorSix
 files-are-no-two-nor-six = FileJobs.files-are-no-two-nor-six
+
+pub printed-numbers-are-whole : PrintedNumbersAreWhole
+printed-numbers-are-whole = TextSize.printed-numbers-are-whole
 
 pub pairs-are-the-slots-in-use : PairsAreTheSlotsInUse
 pairs-are-the-slots-in-use = Printing.pairs-are-the-slots-in-use

@@ -6,8 +6,9 @@ use mathlib.Core.Logic.{_≢_, _⊎_, _↔_}
 use mathlib.Core.List.{List, _∷_, map, List·Memᴰ}
 use mathlib.Core.Option.{some, none}
 use lib.ListN.{length}
-use Rattle.model.specs.Lists.{Perm, Rising, span}
+use Rattle.model.specs.Lists.{All, Perm, Rising, span}
 use Rattle.model.specs.Jobs.{Job, counted}
+use Rattle.model.specs.Rule.{plan}
 use Rattle.promise.specs.declared.Answer.{Answer}
 use Rattle.promise.specs.declared.Reading.{Reading}
 use Rattle.promise.specs.declared.Text.{Text}
@@ -72,6 +73,16 @@ TextIsPrinted = (bytes : List ℕ) → Printed bytes
 -- T: a file's rows are never a 2 or a 6: 1, 3, 4, 5 and 7 are left, by `plan-answers-by-the-table`
 abbrev pub FilesAreNoTwoNorSix : Type 0
 FilesAreNoTwoNorSix = (f : File) → ((fileAnswer f) .number ≢ 2) × ((fileAnswer f) .number ≢ 6)
+
+-- T: every number that is printed has at most 7 digits, so that its text is its own
+pub record PrintsWhole (f : File) : Type 0 where
+  pub refusal-whole : ((fileAnswer f) .number < 10000000) × ((fileAnswer f) .place < 10000000) × ((fileAnswer f) .amount < 10000000)
+  pub count-whole : (fileAnswer f) .number ≡ 0 → f .machines ≤ 64
+  pub jobs-whole : (fileAnswer f) .number ≡ 0
+      → All (λ j. (j .number ≤ 65535) × ((t : ℕ) → 1 ≤ t → plan (f .machines) (counted (f .machines) (fileJobs f)) (j .number) t ≤ 64)) (fileJobs f)
+
+abbrev pub PrintedNumbersAreWhole : Type 0
+PrintedNumbersAreWhole = ((bytes : List ℕ) (ℓ : ℕ) → length bytes ≤ 4096 → BadLine bytes ℓ → ℓ ≤ 4097) × ((f : File) → PrintsWhole f)
 
 -- T: the pairs of a run line: just the slots with machines above 0, rising
 abbrev pub PairsAreTheSlotsInUse : Type 0
