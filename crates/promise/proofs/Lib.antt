@@ -29,6 +29,9 @@ pub mod CallEffects
 pub mod ReadOff
 pub mod HistoryKept
 pub mod WorkedDesk
+pub mod DeskRecord
+pub mod DeskBounds
+pub mod DeskWindowing
 pub mod Theorems
 pub mod Starred
 pub mod Lines

@@ -13,7 +13,7 @@ use Rattle.model.specs.Boundaries.{Short, leastShort}
 use Rattle.model.proofs.LeastShort.{least-short-is-named}
 use Rattle.promise.specs.declared.Answer.{Answer}
 use Rattle.promise.specs.Answers.{yes, refusal, fault, first, fitAnswer}
-use Rattle.promise.specs.Rows.{rowAt, rowCount, listWindow, Field, the-number, the-work, the-deadline, the-bound, fieldNumber, fieldOf, least, greatest, fieldFault, fieldsFault, seenBefore, seenFault, rowsFault, countFault, lengthFault, manyFault, listFault, listOrder}
+use Rattle.promise.specs.Rows.{rowAt, rowCount, Window, listWindow, Field, the-number, the-work, the-deadline, the-bound, fieldNumber, fieldOf, least, greatest, fieldFault, fieldsFault, seenBefore, seenFault, rowsFault, countFault, lengthFault, manyFault, listFault, listOrder}
 use Rattle.promise.specs.Lists.{planned, planAnswer, roomAnswer, Holds, answerOf}
 use Rattle.promise.specs.Window.{wordsOf, bytesFault, windowAnswer, pack, Packs, roomWindowAnswer}
 use Rattle.promise.specs.Claims.{AnswersPack, PackingIsOneToOne}
@@ -22,7 +22,7 @@ use Rattle.promise.proofs.Table.{refuses, gives-list}
 use Rattle.promise.proofs.Sound.{Passes, planned-deadlines}
 use Rattle.promise.proofs.Bounds.{planned-forced, boundary-le, shortage-le}
 
-yes-packs : Packs yes
+pub yes-packs : Packs yes
 yes-packs = record { number = omega arith; place = omega arith; amount = omega arith }
 
 fault-packs : (t : Bool) (a : Answer) → Packs a → Packs (fault t a)
@@ -30,7 +30,7 @@ fault-packs true a p = p
 fault-packs false a p = yes-packs
 
 -- the second only comes where the first is no refusal
-first-packs : (a b : Answer) → Packs a → (a .number ≡ 0 → Packs b) → Packs (first a b)
+pub first-packs : (a b : Answer) → Packs a → (a .number ≡ 0 → Packs b) → Packs (first a b)
 first-packs a b p f = go (eqb (a .number) 0) refl
   where
     go : (t : Bool) → eqb (a .number) 0 ≡ t → Packs (cond t b a)
@@ -38,7 +38,7 @@ first-packs a b p f = go (eqb (a .number) 0) refl
     go false e = p
 
 -- a refusal of the list as a whole
-whole-packs : (t : Bool) (q : ℕ) → q < 256 → Packs (fault t (refusal q 0 0))
+pub whole-packs : (t : Bool) (q : ℕ) → q < 256 → Packs (fault t (refusal q 0 0))
 whole-packs t q l = fault-packs t (refusal q 0 0) (record { number = l; place = omega arith; amount = omega arith })
 
 field-few : (f : Field) → fieldNumber f ≤ 4
@@ -47,21 +47,22 @@ field-few the-work = omega arith
 field-few the-deadline = omega arith
 field-few the-bound = omega arith
 
--- row i, one of at most 32
-module _ (rows : List ℕ) (i : ℕ) (l : i < 32) where
-  field-packs : (f : Field) → Packs (fieldFault listWindow i f (rowAt rows i))
+-- a job's fields at place i, one of at most 32
+module _ (w : Window) (i : ℕ) (j : Job) (l : i < 32) where
+  field-packs : (f : Field) → Packs (fieldFault w i f j)
   unfolding fieldFault
   field-packs f =
-      let v : ℕ = fieldOf f (rowAt rows i) in
-      fault-packs (ltb v (least listWindow f) || ltb (greatest listWindow f) v) (refusal 4 i (fieldNumber f))
+      let v : ℕ = fieldOf f j in
+      fault-packs (ltb v (least w f) || ltb (greatest w f) v) (refusal 4 i (fieldNumber f))
       (record { number = omega arith; place = omega arith; amount = omega (arith, field-few f) })
 
-  fields-pack : Packs (fieldsFault listWindow i (rowAt rows i))
+  pub fields-pack : Packs (fieldsFault w i j)
   unfolding fieldsFault
   fields-pack =
       first-packs _ _ (field-packs the-number)
       (λ _. first-packs _ _ (field-packs the-work) (λ _. first-packs _ _ (field-packs the-deadline) (λ _. field-packs the-bound)))
 
+module _ (rows : List ℕ) (i : ℕ) (l : i < 32) where
   seen-packs : Packs (seenFault rows i)
   unfolding seenFault
   seen-packs =
@@ -72,7 +73,7 @@ rows-pack : (rows : List ℕ) (i n : ℕ) → i + n ≤ 32 → Packs (rowsFault 
 rows-pack rows i zero l = yes-packs
 rows-pack rows i (suc n) l =
     let here : i < 32 = omega arith in
-    first-packs _ _ (first-packs _ _ (fields-pack rows i here) (λ _. seen-packs rows i here)) (λ _. rows-pack rows (suc i) n (omega arith))
+    first-packs _ _ (first-packs _ _ (fields-pack listWindow i (rowAt rows i) here) (λ _. seen-packs rows i here)) (λ _. rows-pack rows (suc i) n (omega arith))
 
 -- no 3 is answered: at most 32 rows
 not-many : (rows : List ℕ) → (manyFault rows) .number ≡ 0 → rowCount rows ≤ 32
@@ -83,7 +84,7 @@ not-many rows = go (ltb 32 (rowCount rows)) refl
     go true e z = absurd (omega arith)
     go false e z = omega (arith, ltb-false 32 (rowCount rows) e)
 
-count-packs : (machines : ℕ) → Packs (countFault machines)
+pub count-packs : (machines : ℕ) → Packs (countFault machines)
 unfolding countFault
 count-packs machines = whole-packs (ltb machines 1 || ltb 64 machines) 1 (omega arith)
 

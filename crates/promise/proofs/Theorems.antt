@@ -1,6 +1,7 @@
--- The headline statements of specs/Claims.antt and specs/DeskClaims.antt, one theorem each.
+-- The headline statements of specs/Claims.antt, specs/DeskClaims.antt and specs/DeskWindowClaims.antt, one theorem each.
 use Rattle.promise.specs.Claims.{WindowReadsTheNumbers, WindowTakesSixteenARow, WindowCountsBytes, WindowCountsMachinesFirst, YesWritesThePlan, RefusalWritesNothing, PlanAnswersByTheTable, RoomAnswersByTheTable, PlanSevenIsTrue, RoomFigureIsTheRoom, RowOrderPlaysNoPart, PlanPromiseLeavesOne, RoomPromiseLeavesOne, AnswersPack, PackingIsOneToOne, RoomIsReadBack, WindowWritesThePlan, WindowPromisesLeaveOne}
 use Rattle.promise.specs.DeskClaims.{SoundIsTested, DeskAnswersByTheTable, SoundnessIsKept, RefusalHandsTheDeskBack, AdmitSevenIsTrue, RunGivesOutThePlan, DeskCallsLeaveOne, OpenAnswersByTheTable, SeatsAreToldAndKept, DemandThree}
+use Rattle.promise.specs.DeskWindowClaims.{RecordsAreReadBack, RecordsAreWrittenBack, DeskWindowAnswersByTheTable, DeskWindowRefusalLeavesTheBytes, DeskWindowHandsTheDeskOn, DeskWindowTellsInPlace, DeskWindowPacks, DeskWindowPromisesLeaveOne}
 use Rattle.promise.proofs.Buffer
 use Rattle.promise.proofs.Table
 use Rattle.promise.proofs.Fit
@@ -20,6 +21,8 @@ use Rattle.promise.proofs.DeskUnique
 use Rattle.promise.proofs.Seatwise
 use Rattle.promise.proofs.HistoryKept
 use Rattle.promise.proofs.WorkedDesk
+use Rattle.promise.proofs.DeskRecord
+use Rattle.promise.proofs.DeskWindowing
 use Rattle.promise.specs.WorkedDesk.{DeskOfTwo}
 
 -- P1
@@ -124,3 +127,28 @@ demand-three = HistoryKept.demand-three
 -- D1
 pub desk-of-two : DeskOfTwo
 desk-of-two = WorkedDesk.desk-of-two
+
+-- the desk at the window
+pub records-are-read-back : RecordsAreReadBack
+records-are-read-back = DeskRecord.records-are-read-back
+
+pub records-are-written-back : RecordsAreWrittenBack
+records-are-written-back = DeskRecord.records-are-written-back
+
+pub desk-window-answers-by-the-table : DeskWindowAnswersByTheTable
+desk-window-answers-by-the-table = DeskWindowing.desk-window-answers-by-the-table
+
+pub desk-window-refusal-leaves-the-bytes : DeskWindowRefusalLeavesTheBytes
+desk-window-refusal-leaves-the-bytes = DeskWindowing.desk-window-refusal-leaves-the-bytes
+
+pub desk-window-hands-the-desk-on : DeskWindowHandsTheDeskOn
+desk-window-hands-the-desk-on = DeskWindowing.desk-window-hands-the-desk-on
+
+pub desk-window-tells-in-place : DeskWindowTellsInPlace
+desk-window-tells-in-place = DeskWindowing.desk-window-tells-in-place
+
+pub desk-window-packs : DeskWindowPacks
+desk-window-packs = DeskWindowing.desk-window-packs
+
+pub desk-window-promises-leave-one : DeskWindowPromisesLeaveOne
+desk-window-promises-leave-one = DeskWindowing.desk-window-promises-leave-one

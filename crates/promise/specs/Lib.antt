@@ -13,3 +13,5 @@ pub mod TextClaims
 pub mod DeskClaims
 pub mod WorkedDesk
 pub mod Claims
+pub mod DeskWindow
+pub mod DeskWindowClaims
