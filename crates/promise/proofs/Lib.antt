@@ -32,6 +32,8 @@ pub mod WorkedDesk
 pub mod DeskRecord
 pub mod DeskBounds
 pub mod DeskWindowing
+pub mod DeskWindowBytes
+pub mod DeskWindowWords
 pub mod Theorems
 pub mod Starred
 pub mod Lines

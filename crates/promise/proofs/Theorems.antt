@@ -1,7 +1,7 @@
 -- The headline statements of specs/Claims.antt, specs/DeskClaims.antt and specs/DeskWindowClaims.antt, one theorem each.
 use Rattle.promise.specs.Claims.{WindowReadsTheNumbers, WindowTakesSixteenARow, WindowCountsBytes, WindowCountsMachinesFirst, YesWritesThePlan, RefusalWritesNothing, PlanAnswersByTheTable, RoomAnswersByTheTable, PlanSevenIsTrue, RoomFigureIsTheRoom, RowOrderPlaysNoPart, PlanPromiseLeavesOne, RoomPromiseLeavesOne, AnswersPack, PackingIsOneToOne, RoomIsReadBack, WindowWritesThePlan, WindowPromisesLeaveOne}
 use Rattle.promise.specs.DeskClaims.{SoundIsTested, DeskAnswersByTheTable, SoundnessIsKept, RefusalHandsTheDeskBack, AdmitSevenIsTrue, RunGivesOutThePlan, DeskCallsLeaveOne, OpenAnswersByTheTable, SeatsAreToldAndKept, DemandThree}
-use Rattle.promise.specs.DeskWindowClaims.{RecordsAreReadBack, RecordsAreWrittenBack, DeskWindowAnswersByTheTable, DeskWindowRefusalLeavesTheBytes, DeskWindowHandsTheDeskOn, DeskWindowTellsInPlace, DeskWindowPacks, DeskWindowPromisesLeaveOne}
+use Rattle.promise.specs.DeskWindowClaims.{RecordsAreReadBack, RecordsAreWrittenBack, DeskWindowAnswersByTheTable, DeskWindowRefusalLeavesTheBytes, DeskWindowHandsTheDeskOn, HistoryGoesThroughTheWindow, DeskWindowTellsInPlace, DeskWindowPacks, DeskWindowPromisesLeaveOne}
 use Rattle.promise.proofs.Buffer
 use Rattle.promise.proofs.Table
 use Rattle.promise.proofs.Fit
@@ -23,6 +23,8 @@ use Rattle.promise.proofs.HistoryKept
 use Rattle.promise.proofs.WorkedDesk
 use Rattle.promise.proofs.DeskRecord
 use Rattle.promise.proofs.DeskWindowing
+use Rattle.promise.proofs.DeskWindowBytes
+use Rattle.promise.proofs.DeskWindowWords
 use Rattle.promise.specs.WorkedDesk.{DeskOfTwo}
 
 -- P1
@@ -139,16 +141,19 @@ pub desk-window-answers-by-the-table : DeskWindowAnswersByTheTable
 desk-window-answers-by-the-table = DeskWindowing.desk-window-answers-by-the-table
 
 pub desk-window-refusal-leaves-the-bytes : DeskWindowRefusalLeavesTheBytes
-desk-window-refusal-leaves-the-bytes = DeskWindowing.desk-window-refusal-leaves-the-bytes
+desk-window-refusal-leaves-the-bytes = DeskWindowBytes.desk-window-refusal-leaves-the-bytes
 
 pub desk-window-hands-the-desk-on : DeskWindowHandsTheDeskOn
-desk-window-hands-the-desk-on = DeskWindowing.desk-window-hands-the-desk-on
+desk-window-hands-the-desk-on = DeskWindowBytes.desk-window-hands-the-desk-on
+
+pub history-goes-through-the-window : HistoryGoesThroughTheWindow
+history-goes-through-the-window = DeskWindowBytes.history-goes-through-the-window
 
 pub desk-window-tells-in-place : DeskWindowTellsInPlace
-desk-window-tells-in-place = DeskWindowing.desk-window-tells-in-place
+desk-window-tells-in-place = DeskWindowBytes.desk-window-tells-in-place
 
 pub desk-window-packs : DeskWindowPacks
-desk-window-packs = DeskWindowing.desk-window-packs
+desk-window-packs = DeskWindowWords.desk-window-packs
 
 pub desk-window-promises-leave-one : DeskWindowPromisesLeaveOne
 desk-window-promises-leave-one = DeskWindowing.desk-window-promises-leave-one

@@ -14,6 +14,7 @@ use Rattle.promise.specs.declared.Looked.{Looked}
 use Rattle.promise.specs.declared.Given.{Given}
 use Rattle.promise.specs.Answers.{refusal, fault, first}
 use Rattle.promise.specs.DeskCalls.{soundFault, openOf, admitOf, withdrawOf, lookOf, runOf}
+use Rattle.promise.specs.History.{Call, admit, withdraw, look, run}
 use Rattle.promise.specs.Window.{wordAt, sent, pack}
 
 -- a record as numbers: machines, clock, then for each seat "its number, admitted work, remaining work, deadline .., bound,
@@ -50,10 +51,9 @@ deskFrom bytes = record { machines = wordAt bytes 0; clock = wordAt bytes 1; sea
 unfoldable pub recordFault : List ℕ → Answer
 recordFault bytes = fault (not (eqb (length bytes) 776)) (refusal 12 0 0)
 
--- what a call with a record lent finds before its own rows: 12, then 6 for an output buffer of fewer bytes than it writes
-unfoldable pub outputFault : List ℕ → ℕ → List ℕ → Answer
-outputFault bytes size lent =
-    first (first (recordFault bytes) (soundFault (deskFrom bytes))) (fault (ltb (length lent) size) (refusal 6 0 0))
+-- what Look and Run test before their own rows: 12, then 6 for an output buffer of so many bytes, fewer than are written
+unfoldable pub outputFault : List ℕ → ℕ → ℕ → Answer
+outputFault bytes lent written = first (first (recordFault bytes) (soundFault (deskFrom bytes))) (fault (ltb lent written) (refusal 6 0 0))
 
 -- on a yes the record is the desk that the call returns, in a refusal the bytes as lent
 abbrev pub recordLeft : Answer → Desk → List ℕ → List ℕ
@@ -107,7 +107,7 @@ abbrev pub lookNumbers : Looked → List ℕ
 lookNumbers told = told .left ∷ told .deadline ∷ told .bound ∷ told .leeway ∷ []
 
 unfoldable pub lookBytesAnswer : List ℕ → ℕ → List ℕ → Answer
-lookBytesAnswer bytes n figures = first (outputFault bytes 16 figures) ((lookOf (deskFrom bytes) n) .answer)
+lookBytesAnswer bytes n figures = first (outputFault bytes (length figures) 16) ((lookOf (deskFrom bytes) n) .answer)
 
 unfoldable pub figuresTold : List ℕ → ℕ → List ℕ → List ℕ
 figuresTold bytes n figures = outputLeft (lookBytesAnswer bytes n figures) (lookNumbers (lookOf (deskFrom bytes) n)) figures
@@ -122,7 +122,7 @@ abbrev pub pairNumbers : Given → List ℕ
 pairNumbers g = g .number ∷ g .machines ∷ []
 
 unfoldable pub runBytesAnswer : List ℕ → List ℕ → Answer
-runBytesAnswer bytes given = first (outputFault bytes 256 given) ((runOf (deskFrom bytes)) .answer)
+runBytesAnswer bytes given = first (outputFault bytes (length given) 256) ((runOf (deskFrom bytes)) .answer)
 
 unfoldable pub recordRun : List ℕ → List ℕ → List ℕ
 recordRun bytes given = recordLeft (runBytesAnswer bytes given) ((runOf (deskFrom bytes)) .desk) bytes
@@ -134,3 +134,11 @@ pub record RunBytesPromise (bytes given : List ℕ) (word : ℕ) (bytesAfter aft
   pub answered : word ≡ pack (runBytesAnswer bytes given)
   pub left : bytesAfter ≡ recordRun bytes given
   pub told : after ≡ pairsTold bytes given
+
+-- a history at the window: each call gets the record that the last one left, and each Run a buffer for its pairs
+abbrev pub recordAfter : List ℕ → List ℕ → List Call → List ℕ
+recordAfter given bytes [] = bytes
+recordAfter given bytes (admit j ∷ calls) = recordAfter given (recordAdmitted bytes j) calls
+recordAfter given bytes (withdraw n ∷ calls) = recordAfter given (recordWithdrawn bytes n) calls
+recordAfter given bytes (look n ∷ calls) = recordAfter given bytes calls
+recordAfter given bytes (run ∷ calls) = recordAfter given (recordRun bytes given) calls

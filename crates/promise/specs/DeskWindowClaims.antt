@@ -11,9 +11,10 @@ use Rattle.promise.specs.declared.Given.{Given}
 use Rattle.promise.specs.Answers.{yes, refusal}
 use Rattle.promise.specs.Desk.{Sound}
 use Rattle.promise.specs.DeskCalls.{openOf, admitOf, withdrawOf, lookOf, runOf, admitAnswer, HeldAs}
+use Rattle.promise.specs.History.{Call, deskAfter}
 use Rattle.promise.specs.DeskClaims.{Seated}
 use Rattle.promise.specs.Window.{wordAt, pack, Packs}
-use Rattle.promise.specs.DeskWindow.{deskNumbers, deskBytes, deskFrom, openBytesAnswer, recordOpened, OpenBytesPromise, admitBytesAnswer, recordAdmitted, AdmitBytesPromise, withdrawBytesAnswer, withdrawPacked, recordWithdrawn, WithdrawBytesPromise, lookBytesAnswer, figuresTold, LookBytesPromise, runBytesAnswer, recordRun, pairsTold, RunBytesPromise}
+use Rattle.promise.specs.DeskWindow.{deskNumbers, deskBytes, deskFrom, openBytesAnswer, recordOpened, OpenBytesPromise, admitBytesAnswer, recordAdmitted, AdmitBytesPromise, withdrawBytesAnswer, withdrawPacked, recordWithdrawn, WithdrawBytesPromise, lookBytesAnswer, figuresTold, LookBytesPromise, runBytesAnswer, recordRun, pairsTold, RunBytesPromise, recordAfter}
 
 -- a record of 32-bit numbers is 776 bytes, and is read as it was written
 abbrev pub RecordsAreReadBack : Type 0
@@ -89,6 +90,19 @@ abbrev pub DeskWindowHandsTheDeskOn : Type 0
 DeskWindowHandsTheDeskOn =
     (bytes : List ℕ) → length bytes ≡ 776
     → ((machines : ℕ) → 1 ≤ machines → machines ≤ 64 → deskFrom (recordOpened machines bytes) ≡ (openOf machines) .desk) × DeskHandedOn bytes
+
+-- so a history through the window is one of the desk: the record after it is the desk of demand 3, and the next call is answered as there
+pub record GoesOn (bytes : List ℕ) (desk : Desk) : Type 0 where
+  pub held : deskFrom bytes ≡ desk
+  pub admit : (j : Job) → admitBytesAnswer bytes j ≡ (admitOf desk j) .answer
+  pub withdraw : (n : ℕ) → withdrawBytesAnswer bytes n ≡ (withdrawOf desk n) .answer
+  pub look : (n : ℕ) (lent : List ℕ) → 16 ≤ length lent → lookBytesAnswer bytes n lent ≡ (lookOf desk n) .answer
+  pub run : (lent : List ℕ) → 256 ≤ length lent → runBytesAnswer bytes lent ≡ (runOf desk) .answer
+
+abbrev pub HistoryGoesThroughTheWindow : Type 0
+HistoryGoesThroughTheWindow =
+    (machines : ℕ) (bytes given : List ℕ) (calls : List Call) → 1 ≤ machines → machines ≤ 64 → length bytes ≡ 776 → 256 ≤ length given
+    → GoesOn (recordAfter given (recordOpened machines bytes) calls) (deskAfter machines calls)
 
 -- on a yes the figures and the pairs stand in their places, lowest byte first, and what was lent after them
 pub record FiguresInPlace (bytes : List ℕ) (n : ℕ) (lent : List ℕ) : Type 0 where
