@@ -70,11 +70,11 @@ output-same a numbers lent f = go (eqb (a .number) 0) refl
 
 -- no refusal of an output buffer: a record, and room for what is written
 module _ (bytes : List ℕ) (lent size : ℕ) (z : (outputFault bytes lent size) .number ≡ 0) where
-  output-record : length bytes ≡ 776
+  pub output-record : length bytes ≡ 776
   unfolding outputFault
   output-record = record-long bytes (first-zero-front (recordFault bytes) _ (first-zero-front (first (recordFault bytes) (soundFault (deskFrom bytes))) _ z))
 
-  output-long : size ≤ lent
+  pub output-long : size ≤ lent
   unfolding outputFault
   output-long = go (ltb lent size) refl (first-zero (first (recordFault bytes) (soundFault (deskFrom bytes))) _ z)
     where

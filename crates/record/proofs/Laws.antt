@@ -3,9 +3,13 @@ use Prim.Native.Nat.{ℕ, zero, suc, _+_, _*_, _-_, _/_, _%_, _≤_, _<_}
 use native.Mathlib.Omega.{arith}
 use native.Mathlib.Numerals.{add-one}
 use mathlib.Core.Path.{_≡_, refl, sym, _∙_, ap, ap₂}
+use mathlib.Core.Logic.{_≢_}
+use mathlib.Core.Bool.{cond}
 use mathlib.Core.List.{List, [], _∷_, _++_, map, flatten, append-nil, append-assoc}
+use lib.Dec.{eqb}
 use lib.ListN.{length, getD, take, drop, set, length-append, length-set, drop-of-length-le}
 use lib.Seq.{drop-cons, drop-at, append-snoc, length-take-le, take-length, getD-set-same, drop-set-lt}
+use borrow.Author.Tests.{eq-eqb, ne-eqb}
 use Rattle.figures.proofs.Tables.{drop-none}
 use Rattle.promise.specs.declared.Held.{Held}
 use Rattle.promise.specs.declared.Desk.{Desk}
@@ -136,3 +140,11 @@ unfolding deskFrom
 read-end bytes desk i z m c r =
     let all : desk .seats ≡ seatsFrom bytes 0 32 = sym (drop-none (desk .seats) 0 refl) ∙ (rw z at r) in
     λ t. record { machines = m t; clock = c t; seats = all t }
+
+-- ---- what a call leaves
+
+pub on-yes : (n : ℕ) (after made lent : List ℕ) → n ≡ 0 → after ≡ made → after ≡ cond (eqb n 0) made lent
+on-yes n after made lent z e = rw (eq-eqb n 0 z) e
+
+pub on-refusal : (n : ℕ) (made lent : List ℕ) → n ≢ 0 → lent ≡ cond (eqb n 0) made lent
+on-refusal n made lent h = rw (ne-eqb n 0 h) refl

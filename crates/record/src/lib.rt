@@ -1,4 +1,5 @@
 // The desk's record as bytes, read and written, and the numbers that Look and Run write.
+use promise::Answer;
 use promise::Desk;
 use promise::Given;
 use promise::Held;
@@ -8,7 +9,7 @@ ghost use mathlib.Core.List.{map, flatten};
 ghost use Prim.Native.Nat.{_+_, _*_, _≤_, _<_};
 ghost use lib.ListN.{length};
 ghost use Rattle.promise.specs.Window.{wordAt};
-ghost use Rattle.promise.specs.DeskWindow.{seatNumbers, deskBytes, seatAt, deskFrom, lookNumbers, pairNumbers};
+ghost use Rattle.promise.specs.DeskWindow.{seatNumbers, deskBytes, seatAt, deskFrom, recordLeft, outputLeft, lookNumbers, pairNumbers};
 ghost use Rattle.record.specs.Bytes.{fourOf, wordSet, wordsSet, sentOver};
 
 // The number of four bytes, lowest first.
@@ -132,5 +133,35 @@ pub fn write_pairs(given: [Given; 32], out: &mut [u8])
         let g = given[i];
         put_pair(&mut *out, 2 * i, g);
         i += 1;
+    }
+}
+
+// What a call leaves of the record: on a yes the desk that it returned.
+pub fn leave_desk(answer: Answer, desk: Desk, out: &mut [u8])
+    requires { ⌜ length (now out) ≡ 776 ⌝ }
+    ensures { λ _. ⌜ now (out .exit) ≡ recordLeft answer desk (now (out .entry)) ⌝ }
+{
+    if answer.number == 0 {
+        write_desk(desk, out);
+    }
+}
+
+// What Look leaves in its buffer: on a yes the figures.
+pub fn leave_figures(answer: Answer, told: Looked, out: &mut [u8])
+    requires { ⌜ 16 ≤ length (now out) ⌝ }
+    ensures { λ _. ⌜ now (out .exit) ≡ outputLeft answer (lookNumbers told) (now (out .entry)) ⌝ }
+{
+    if answer.number == 0 {
+        write_figures(told, out);
+    }
+}
+
+// What Run leaves in its buffer: on a yes the pairs.
+pub fn leave_pairs(answer: Answer, given: [Given; 32], out: &mut [u8])
+    requires { ⌜ 256 ≤ length (now out) ⌝ }
+    ensures { λ _. ⌜ now (out .exit) ≡ outputLeft answer (flatten (map pairNumbers given)) (now (out .entry)) ⌝ }
+{
+    if answer.number == 0 {
+        write_pairs(given, out);
     }
 }
