@@ -4,16 +4,15 @@ use native.Mathlib.Omega.{arith}
 use mathlib.Core.Path.{_≡_, refl, sym, _∙_, ap}
 use mathlib.Core.Logic.{_≢_}
 use mathlib.Core.Bool.{Bool, true, false, not}
-use mathlib.Core.List.{List, [], _∷_}
+use mathlib.Core.List.{List}
 use lib.Dec.{leb}
 use lib.ListN.{length, getD, take, List·getD-append}
 use lib.Seq.{take-append-seam}
 use borrow.Author.Tests.{eq-eqb, ne-eqb, le-leb, lt-leb, leb-false}
 use Rattle.model.specs.Lists.{All}
-use Rattle.model.specs.Jobs.{Job, counted}
+use Rattle.model.specs.Jobs.{Job}
 use Rattle.model.specs.Boundaries.{leastShort}
 use Rattle.model.proofs.Lists.{perm-all, All-map}
-use Rattle.model.proofs.Exactly.{width-le}
 use Rattle.model.proofs.Theorems.{least-short-is-named}
 use Rattle.walk.specs.declared.Fit.{Fit}
 use Rattle.walk.specs.declared.Fit.the-variants.{Fits, Short}
@@ -23,12 +22,13 @@ use Rattle.promise.specs.declared.Held.{Held}
 use Rattle.promise.specs.declared.Desk.{Desk}
 use Rattle.promise.specs.Answers.{yes, refusal, fault, first}
 use Rattle.promise.specs.Rows.{Field, the-number, the-work, the-deadline, the-bound, Window, least, greatest, fieldOf, fieldNumber, OutOfRange, fieldFault, fieldsFault}
-use Rattle.promise.specs.Desk.{heldOf, table, deskOf, asPlanned, toPlan, leeway, Sound, SoundSeat}
+use Rattle.promise.specs.Desk.{heldOf, table, deskOf, toPlan, leeway, Sound, SoundSeat}
 use Rattle.promise.specs.DeskCalls.{isHeld, seatOf, without, seated, newHeld, withNew, admitWindow, deskFit, soundFault, admitAnswer, admitOf, findAnswer, withdrawOf, lookOf}
 use Rattle.promise.proofs.Ladder.{Tells, holds, fails, tells-lt, tells-or, same-number, first-zero, first-stop, first-past, first-first, first-zero-front}
 use Rattle.promise.proofs.DeskKept.{in-range}
 use Rattle.promise.proofs.DeskSeats.{seated-perm, length-seated}
 use Rattle.promise.proofs.Bounds.{boundary-le}
+use Rattle.promise.proofs.DeskBounds.{Light, light-in-range, held-light}
 use Rattle.seats.specs.declared.Found.{Found}
 use Rattle.seats.specs.declared.Found.the-variants.{Nothing, At}
 use Rattle.seats.specs.Seats.{findIn}
@@ -124,21 +124,6 @@ module _ (desk : Desk) (zeros : desk .seats ≡ table (heldOf desk)) (k : ℕ) (
     pub seat-free : k < 32 → yes ≡ seatFault desk n
     unfolding seatFault
     seat-free l = rw (new, lt-leb 32 (length (heldOf desk)) (omega arith)) refl
-
--- jobs that the walk can take
-abbrev pub Light : ℕ → Held → Type 0
-Light clock h = (h .left ≤ 60000) × (h .deadline - clock ≤ 168) × (h .bound ≤ 64)
-
-pub light-in-range : (machines clock : ℕ) (hs : List Held) → All (Light clock) hs → All InRange (toPlan machines clock hs)
-unfolding toPlan counted asPlanned
-light-in-range machines clock [] a = tt
-light-in-range machines clock (h ∷ hs) a =
-    ((a .0 .0, a .0 .1, omega (arith, width-le machines (h .bound))), light-in-range machines clock hs (a .1))
-
--- held jobs are such jobs
-pub held-light : (desk : Desk) → Sound desk → All (Light (desk .clock)) (heldOf desk)
-held-light desk s =
-    All-map (λ (h : Held) (q : SoundSeat (desk .clock) h). omega (arith, q .work, q .left, q .due, q .slots, q .bound)) (heldOf desk) (s .seats)
 
 -- a short boundary that the walk names is a deadline, or 0
 pub near : (machines : ℕ) (jobs : List Job) (fit : Fit) → All InRange jobs → asShort fit ≡ leastShort machines jobs → Near fit

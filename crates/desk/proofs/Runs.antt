@@ -24,11 +24,11 @@ use Rattle.promise.specs.DeskClaims.{Seated}
 use Rattle.promise.proofs.Ladder.{same-number, first-zero-front}
 use Rattle.promise.proofs.DeskSeats.{to-plan-distinct}
 use Rattle.promise.proofs.DeskTable.{run-yes}
+use Rattle.promise.proofs.DeskBounds.{light-in-range, held-light}
 use Rattle.seats.proofs.Laws.{held-first}
 use Rattle.slot.specs.Slot.{fillDown, givenTo, afterShares}
 use Rattle.slot.proofs.Column.{slot-pairs, slot-after}
 use Rattle.desk.proofs.Figures.{good}
-use Rattle.desk.proofs.Laws.{light-in-range, held-light}
 
 module _ (desk : Desk) (a : Answer) (e : a ≡ runAnswer desk) where
   pub run-refused : a .number ≢ 0 → record { answer = a; given = pairs []; desk = desk } ≡ runOf desk

@@ -16,7 +16,7 @@ use Rattle.promise.specs.Lists.{planned}
 use Rattle.promise.proofs.Sound.{InRange, Passes, planned-in-range, few-rows}
 
 -- each job forces at most its work
-forced-le : (jobs : List Job) (b : ℕ) → All InRange jobs → forced jobs b ≤ 60000 * length jobs
+pub forced-le : (jobs : List Job) (b : ℕ) → All InRange jobs → forced jobs b ≤ 60000 * length jobs
 unfolding forced forcedOf
 forced-le [] b h = omega arith
 forced-le (j ∷ jobs) b h = omega (arith, h .0 .0, forced-le jobs b (h .1))

@@ -50,7 +50,7 @@ module _ (desk : Desk) (j : Job) where
   no-room none e h = absurd (h (none-short-is-named (desk .machines) asks .0 e))
   no-room (some s) e h = omega arith
 
-  desk-refuses : (x : DeskTest) → DeskHolds desk j x → (deskAnswerOf desk j x) .number ≢ 0
+  pub desk-refuses : (x : DeskTest) → DeskHolds desk j x → (deskAnswerOf desk j x) .number ≢ 0
   desk-refuses not-sound h = omega arith
   desk-refuses (asked f) h = omega arith
   desk-refuses held-already h = omega arith
@@ -75,7 +75,7 @@ module _ (desk : Desk) (j : Job) where
       let w = admitWindow (desk .clock) in
       test (asked f) (tells-or (tells-lt (fieldOf f j) (least w f)) (tells-lt (greatest w f) (fieldOf f j)))
 
-  gives-fields : DeskGives (asked the-number ∷ asked the-work ∷ asked the-deadline ∷ asked the-bound ∷ []) (fieldsFault (admitWindow (desk .clock)) 0 j)
+  pub gives-fields : DeskGives (asked the-number ∷ asked the-work ∷ asked the-deadline ∷ asked the-bound ∷ []) (fieldsFault (admitWindow (desk .clock)) 0 j)
   unfolding fieldsFault
   gives-fields =
       join (asked the-number ∷ []) (asked the-work ∷ asked the-deadline ∷ asked the-bound ∷ []) _ _ (gives-field the-number)
@@ -93,7 +93,7 @@ module _ (desk : Desk) (j : Job) where
       go (some s) e = inl ((λ h. some-none s (sym e ∙ all-room .1 h)), rw e)
 
   module _ (seated : Seated desk) where
-    gives-sound : DeskGives (not-sound ∷ []) (soundFault desk)
+    pub gives-sound : DeskGives (not-sound ∷ []) (soundFault desk)
     unfolding soundFault
     gives-sound = test not-sound (tells-not (tells-sound desk seated))
 

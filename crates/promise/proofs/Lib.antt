@@ -28,11 +28,14 @@ pub mod Seatwise
 pub mod CallEffects
 pub mod ReadOff
 pub mod HistoryKept
-pub mod Theorems
-pub mod Starred
-pub mod Lines
+pub mod DeskRecord
+pub mod DeskBounds
+pub mod DeskWindowing
+pub mod DeskWindowBytes
+pub mod DeskWindowWords
 pub mod TextTests
 pub mod Digits
+pub mod Lines
 pub mod FileLines
 pub mod FileFits
 pub mod FileRead
@@ -41,3 +44,5 @@ pub mod FileJobs
 pub mod Printing
 pub mod FileOrder
 pub mod TextSize
+pub mod Starred
+pub mod Theorems

@@ -13,7 +13,7 @@ use Rattle.model.specs.Boundaries.{Short, leastShort}
 use Rattle.model.proofs.LeastShort.{least-short-is-named}
 use Rattle.promise.specs.declared.Answer.{Answer}
 use Rattle.promise.specs.Answers.{yes, refusal, fault, first, fitAnswer}
-use Rattle.promise.specs.Rows.{rowAt, rowCount, listWindow, Field, the-number, the-work, the-deadline, the-bound, fieldNumber, fieldOf, least, greatest, fieldFault, fieldsFault, seenBefore, seenFault, rowsFault, countFault, lengthFault, manyFault, listFault, listOrder}
+use Rattle.promise.specs.Rows.{rowAt, rowCount, Window, listWindow, Field, the-number, the-work, the-deadline, the-bound, fieldNumber, fieldOf, least, greatest, fieldFault, fieldsFault, seenBefore, seenFault, rowsFault, countFault, lengthFault, manyFault, listFault, listOrder}
 use Rattle.promise.specs.Lists.{planned, planAnswer, roomAnswer, Holds, answerOf}
 use Rattle.promise.specs.Window.{wordsOf, bytesFault, windowAnswer, pack, Packs, roomWindowAnswer}
 use Rattle.promise.specs.Claims.{AnswersPack, PackingIsOneToOne}
@@ -28,26 +28,26 @@ pub record Small (a : Answer) : Type 0 where
   pub place : a .place ≤ 168
   pub amount : a .amount ≤ 1920000
 
-small-packs : {a : Answer} → Small a → Packs a
+pub small-packs : {a : Answer} → Small a → Packs a
 small-packs s = record { number = s .number; place = omega (arith, s .place); amount = omega (arith, s .amount) }
 
-yes-small : Small yes
+pub yes-small : Small yes
 yes-small = record { number = omega arith; place = omega arith; amount = omega arith }
+
+-- what is so of two answers is so of the first of them; the second only comes where the first is no refusal
+pub first-keeps : (P : Answer → Type 0) (a b : Answer) → P a → (a .number ≡ 0 → P b) → P (first a b)
+first-keeps P a b p f = go (eqb (a .number) 0) refl
+  where
+    go : (t : Bool) → eqb (a .number) 0 ≡ t → P (cond t b a)
+    go true e = f (eqb-true (a .number) 0 e)
+    go false e = p
 
 fault-small : (t : Bool) (a : Answer) → Small a → Small (fault t a)
 fault-small true a p = p
 fault-small false a p = yes-small
 
--- the second only comes where the first is no refusal
-first-small : (a b : Answer) → Small a → (a .number ≡ 0 → Small b) → Small (first a b)
-first-small a b p f = go (eqb (a .number) 0) refl
-  where
-    go : (t : Bool) → eqb (a .number) 0 ≡ t → Small (cond t b a)
-    go true e = f (eqb-true (a .number) 0 e)
-    go false e = p
-
 -- a refusal of the list as a whole
-whole-small : (t : Bool) (q : ℕ) → q < 256 → Small (fault t (refusal q 0 0))
+pub whole-small : (t : Bool) (q : ℕ) → q < 256 → Small (fault t (refusal q 0 0))
 whole-small t q l = fault-small t (refusal q 0 0) (record { number = l; place = omega arith; amount = omega arith })
 
 field-few : (f : Field) → fieldNumber f ≤ 4
@@ -56,21 +56,22 @@ field-few the-work = omega arith
 field-few the-deadline = omega arith
 field-few the-bound = omega arith
 
--- row i, one of at most 32
-module _ (rows : List ℕ) (i : ℕ) (l : i < 32) where
-  field-small : (f : Field) → Small (fieldFault listWindow i f (rowAt rows i))
+-- a job's fields at place i, one of at most 32
+module _ (w : Window) (i : ℕ) (j : Job) (l : i < 32) where
+  field-small : (f : Field) → Small (fieldFault w i f j)
   unfolding fieldFault
   field-small f =
-      let v : ℕ = fieldOf f (rowAt rows i) in
-      fault-small (ltb v (least listWindow f) || ltb (greatest listWindow f) v) (refusal 4 i (fieldNumber f))
+      let v : ℕ = fieldOf f j in
+      fault-small (ltb v (least w f) || ltb (greatest w f) v) (refusal 4 i (fieldNumber f))
       (record { number = omega arith; place = omega arith; amount = omega (arith, field-few f) })
 
-  fields-small : Small (fieldsFault listWindow i (rowAt rows i))
+  pub fields-small : Small (fieldsFault w i j)
   unfolding fieldsFault
   fields-small =
-      first-small _ _ (field-small the-number)
-      (λ _. first-small _ _ (field-small the-work) (λ _. first-small _ _ (field-small the-deadline) (λ _. field-small the-bound)))
+      first-keeps Small _ _ (field-small the-number)
+      (λ _. first-keeps Small _ _ (field-small the-work) (λ _. first-keeps Small _ _ (field-small the-deadline) (λ _. field-small the-bound)))
 
+module _ (rows : List ℕ) (i : ℕ) (l : i < 32) where
   seen-small : Small (seenFault rows i)
   unfolding seenFault
   seen-small =
@@ -81,7 +82,7 @@ rows-small : (rows : List ℕ) (i n : ℕ) → i + n ≤ 32 → Small (rowsFault
 rows-small rows i zero l = yes-small
 rows-small rows i (suc n) l =
     let here : i < 32 = omega arith in
-    first-small _ _ (first-small _ _ (fields-small rows i here) (λ _. seen-small rows i here)) (λ _. rows-small rows (suc i) n (omega arith))
+    first-keeps Small _ _ (first-keeps Small _ _ (fields-small listWindow i (rowAt rows i) here) (λ _. seen-small rows i here)) (λ _. rows-small rows (suc i) n (omega arith))
 
 -- no 3 is answered: at most 32 rows
 not-many : (rows : List ℕ) → (manyFault rows) .number ≡ 0 → rowCount rows ≤ 32
@@ -92,7 +93,7 @@ not-many rows = go (ltb 32 (rowCount rows)) refl
     go true e z = absurd (omega arith)
     go false e z = omega (arith, ltb-false 32 (rowCount rows) e)
 
-count-small : (machines : ℕ) → Small (countFault machines)
+pub count-small : (machines : ℕ) → Small (countFault machines)
 unfolding countFault
 count-small machines = whole-small (ltb machines 1 || ltb 64 machines) 1 (omega arith)
 
@@ -100,9 +101,9 @@ module _ (machines : ℕ) (rows : List ℕ) where
   list-small : Small (listFault machines rows)
   unfolding listFault lengthFault manyFault
   list-small =
-      first-small _ _ (count-small machines)
-      (λ _. first-small _ _ (whole-small (not (eqb (length rows % 4) 0)) 2 (omega arith))
-      (λ _. first-small _ _ (whole-small (ltb 32 (rowCount rows)) 3 (omega arith))
+      first-keeps Small _ _ (count-small machines)
+      (λ _. first-keeps Small _ _ (whole-small (not (eqb (length rows % 4) 0)) 2 (omega arith))
+      (λ _. first-keeps Small _ _ (whole-small (ltb 32 (rowCount rows)) 3 (omega arith))
       (λ z. rows-small rows 0 (rowCount rows) (omega (arith, not-many rows z)))))
 
   -- a boundary is at most 168, and a shortage at most all the work
@@ -120,8 +121,8 @@ module _ (machines : ℕ) (rows : List ℕ) where
   pub plan-small : (size : ℕ) → Small (planAnswer machines rows size)
   unfolding planAnswer
   plan-small size =
-      first-small _ _ list-small
-      (λ z. first-small _ _ (whole-small (ltb size (168 * rowCount rows)) 6 (omega arith))
+      first-keeps Small _ _ list-small
+      (λ z. first-keeps Small _ _ (whole-small (ltb size (168 * rowCount rows)) 6 (omega arith))
       (λ _. fit-small (passes z) (leastShort machines (planned machines rows)) refl))
     where
       passes : (listFault machines rows) .number ≡ 0 → Passes machines rows (listOrder rows)
@@ -131,19 +132,19 @@ module _ (machines : ℕ) (rows : List ℕ) where
 
   room-small : (b : ℕ) → Small (roomAnswer machines rows b)
   unfolding roomAnswer
-  room-small b = first-small _ _ list-small (λ _. whole-small (ltb 168 b) 9 (omega arith))
+  room-small b = first-keeps Small _ _ list-small (λ _. whole-small (ltb 168 b) 9 (omega arith))
 
   bytes-small : Small (bytesFault machines rows)
   unfolding bytesFault
-  bytes-small = first-small _ _ (count-small machines) (λ _. whole-small (not (eqb (length rows % 16) 0)) 2 (omega arith))
+  bytes-small = first-keeps Small _ _ (count-small machines) (λ _. whole-small (not (eqb (length rows % 16) 0)) 2 (omega arith))
 
 pub answers-pack : AnswersPack
 unfolding windowAnswer roomWindowAnswer
 answers-pack machines rows size = (
   small-packs (plan-small machines rows size),
   small-packs (room-small machines rows size),
-  small-packs (first-small _ _ (bytes-small machines rows) (λ _. plan-small machines (wordsOf rows) _)),
-  small-packs (first-small _ _ (bytes-small machines rows) (λ _. room-small machines (wordsOf rows) size)),
+  small-packs (first-keeps Small _ _ (bytes-small machines rows) (λ _. plan-small machines (wordsOf rows) _)),
+  small-packs (first-keeps Small _ _ (bytes-small machines rows) (λ _. room-small machines (wordsOf rows) size)),
 )
 
 pub packing-is-one-to-one : PackingIsOneToOne

@@ -1,6 +1,8 @@
--- The headline statements of specs/Claims.antt, DeskClaims.antt, TextClaims.antt and Starred.antt, one theorem each.
+-- The headline statements of specs/Claims.antt, DeskClaims.antt, DeskWindowClaims.antt, TextClaims.antt and
+-- Starred.antt, one theorem each.
 use Rattle.promise.specs.Claims.{WindowReadsTheNumbers, WindowTakesSixteenARow, WindowCountsBytes, WindowCountsMachinesFirst, YesWritesThePlan, RefusalWritesNothing, PlanAnswersByTheTable, RoomAnswersByTheTable, PlanSevenIsTrue, RoomFigureIsTheRoom, RowOrderPlaysNoPart, PlanPromiseLeavesOne, RoomPromiseLeavesOne, AnswersPack, PackingIsOneToOne, RoomIsReadBack, WindowWritesThePlan, WindowPromisesLeaveOne}
 use Rattle.promise.specs.DeskClaims.{SoundIsTested, DeskAnswersByTheTable, SoundnessIsKept, RefusalHandsTheDeskBack, AdmitSevenIsTrue, RunGivesOutThePlan, DeskCallsLeaveOne, OpenAnswersByTheTable, SeatsAreToldAndKept, DemandThree}
+use Rattle.promise.specs.DeskWindowClaims.{RecordsAreReadBack, RecordsAreWrittenBack, DeskWindowAnswersByTheTable, DeskWindowRefusalLeavesTheBytes, DeskWindowHandsTheDeskOn, HistoryGoesThroughTheWindow, DeskWindowTellsInPlace, DeskWindowPacks, DeskWindowPromisesLeaveOne}
 use Rattle.promise.specs.TextClaims.{NumbersAreReadBack, NumbersArePrintedBack, FileIsRead, FilesHaveTheirOwnText, TextIsPrinted, FilesAreNoTwoNorSix, PrintedNumbersAreWhole, PairsAreTheSlotsInUse, LabelsPlayNoPart, FileOrderPlaysNoPart, TextFits, TextPromisesLeaveOne}
 use Rattle.promise.specs.Starred.{StarredCasesComeOut}
 use Rattle.promise.proofs.Buffer
@@ -21,6 +23,10 @@ use Rattle.promise.proofs.DeskRun
 use Rattle.promise.proofs.DeskUnique
 use Rattle.promise.proofs.Seatwise
 use Rattle.promise.proofs.HistoryKept
+use Rattle.promise.proofs.DeskRecord
+use Rattle.promise.proofs.DeskWindowing
+use Rattle.promise.proofs.DeskWindowBytes
+use Rattle.promise.proofs.DeskWindowWords
 use Rattle.promise.proofs.Digits
 use Rattle.promise.proofs.FileLines
 use Rattle.promise.proofs.FileIsRead
@@ -129,9 +135,33 @@ desk-calls-leave-one = DeskUnique.desk-calls-leave-one
 pub demand-three : DemandThree
 demand-three = HistoryKept.demand-three
 
--- P1 to P10 and D1
-pub starred-cases-come-out : StarredCasesComeOut
-starred-cases-come-out = Starred.starred-cases-come-out
+-- the desk at the window
+pub records-are-read-back : RecordsAreReadBack
+records-are-read-back = DeskRecord.records-are-read-back
+
+pub records-are-written-back : RecordsAreWrittenBack
+records-are-written-back = DeskRecord.records-are-written-back
+
+pub desk-window-answers-by-the-table : DeskWindowAnswersByTheTable
+desk-window-answers-by-the-table = DeskWindowing.desk-window-answers-by-the-table
+
+pub desk-window-refusal-leaves-the-bytes : DeskWindowRefusalLeavesTheBytes
+desk-window-refusal-leaves-the-bytes = DeskWindowBytes.desk-window-refusal-leaves-the-bytes
+
+pub desk-window-hands-the-desk-on : DeskWindowHandsTheDeskOn
+desk-window-hands-the-desk-on = DeskWindowBytes.desk-window-hands-the-desk-on
+
+pub history-goes-through-the-window : HistoryGoesThroughTheWindow
+history-goes-through-the-window = DeskWindowBytes.history-goes-through-the-window
+
+pub desk-window-tells-in-place : DeskWindowTellsInPlace
+desk-window-tells-in-place = DeskWindowBytes.desk-window-tells-in-place
+
+pub desk-window-packs : DeskWindowPacks
+desk-window-packs = DeskWindowWords.desk-window-packs
+
+pub desk-window-promises-leave-one : DeskWindowPromisesLeaveOne
+desk-window-promises-leave-one = DeskWindowing.desk-window-promises-leave-one
 
 -- numbers as texts
 pub numbers-are-read-back : NumbersAreReadBack
@@ -171,3 +201,7 @@ text-fits = TextSize.text-fits
 
 pub text-promises-leave-one : TextPromisesLeaveOne
 text-promises-leave-one = Unique.text-promises-leave-one
+
+-- P1 to P10 and D1
+pub starred-cases-come-out : StarredCasesComeOut
+starred-cases-come-out = Starred.starred-cases-come-out

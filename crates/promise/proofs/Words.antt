@@ -15,7 +15,7 @@ use Rattle.promise.specs.Rows.{rowCount, countFault}
 use Rattle.promise.specs.Window.{wordAt, wordsFrom, wordsOf, sent, bytesFault, windowAnswer, roomWindowAnswer}
 use Rattle.promise.specs.Claims.{WindowReadsTheNumbers, WindowTakesSixteenARow, WindowCountsBytes, WindowCountsMachinesFirst}
 
-sent-length : (ns : List ℕ) → length (sent ns) ≡ 4 * length ns
+pub sent-length : (ns : List ℕ) → length (sent ns) ≡ 4 * length ns
 sent-length [] = omega arith
 sent-length (n ∷ ns) = omega (arith, sent-length ns)
 
@@ -24,7 +24,7 @@ module _ (a b c d : ℕ) (bytes : List ℕ) where
   four-on : (k m : ℕ) → m ≡ suc (suc (suc (suc k))) → getD (a ∷ b ∷ c ∷ d ∷ bytes) m 0 ≡ getD bytes k 0
   four-on k m e = rw e
 
-  word-on : (i : ℕ) → wordAt (a ∷ b ∷ c ∷ d ∷ bytes) (suc i) ≡ wordAt bytes i
+  pub word-on : (i : ℕ) → wordAt (a ∷ b ∷ c ∷ d ∷ bytes) (suc i) ≡ wordAt bytes i
   unfolding wordAt
   word-on i =
       omega (
@@ -35,11 +35,11 @@ module _ (a b c d : ℕ) (bytes : List ℕ) where
         four-on (4 * i + 3) (4 * suc i + 3) (omega arith),
       )
 
-  words-on : (i n : ℕ) → wordsFrom (a ∷ b ∷ c ∷ d ∷ bytes) (suc i) n ≡ wordsFrom bytes i n
+  pub words-on : (i n : ℕ) → wordsFrom (a ∷ b ∷ c ∷ d ∷ bytes) (suc i) n ≡ wordsFrom bytes i n
   words-on i zero = refl
   words-on i (suc n) = ap₂ _∷_ (word-on i) (words-on (suc i) n)
 
-first-word : (n : ℕ) (ns : List ℕ) → wordAt (sent (n ∷ ns)) 0 ≡ n
+pub first-word : (n : ℕ) (ns : List ℕ) → wordAt (sent (n ∷ ns)) 0 ≡ n
 unfolding wordAt
 first-word n ns = omega arith
 
@@ -47,7 +47,7 @@ words-read : (ns : List ℕ) → wordsFrom (sent ns) 0 (length ns) ≡ ns
 words-read [] = refl
 words-read (n ∷ ns) = ap₂ _∷_ (first-word n ns) (words-on (n % 256) (n / 256 % 256) (n / 65536 % 256) (n / 16777216) (sent ns) 0 (length ns) ∙ words-read ns)
 
-bytes-sent : (ns : List ℕ) → All (λ n. n < 4294967296) ns → All (λ b. b < 256) (sent ns)
+pub bytes-sent : (ns : List ℕ) → All (λ n. n < 4294967296) ns → All (λ b. b < 256) (sent ns)
 bytes-sent [] h = tt
 bytes-sent (n ∷ ns) h = let l = h .0 in (omega arith, (omega arith, (omega arith, (omega arith, bytes-sent ns (h .1)))))
 

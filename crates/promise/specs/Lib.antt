@@ -13,3 +13,5 @@ pub mod TextClaims
 pub mod Starred
 pub mod DeskClaims
 pub mod Claims
+pub mod DeskWindow
+pub mod DeskWindowClaims

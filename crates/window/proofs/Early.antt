@@ -28,14 +28,14 @@ unfolding rowCount
 row-count list = omega (arith, words-count list)
 
 -- a refusal that names no place and no amount
-abbrev Whole : Answer → Type 0
+abbrev pub Whole : Answer → Type 0
 Whole a = a ≡ refusal (a .number) 0 0
 
-fault-whole : (t : Bool) (number : ℕ) → Whole (fault t (refusal number 0 0))
+pub fault-whole : (t : Bool) (number : ℕ) → Whole (fault t (refusal number 0 0))
 fault-whole true number = refl
 fault-whole false number = refl
 
-first-whole : (a b : Answer) → Whole a → Whole b → Whole (first a b)
+pub first-whole : (a b : Answer) → Whole a → Whole b → Whole (first a b)
 first-whole a b p q = go (eqb (a .number) 0)
   where
     go : (t : Bool) → Whole (cond t b a)

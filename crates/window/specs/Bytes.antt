@@ -12,9 +12,6 @@ use Rattle.promise.specs.Rows.{rowCount, manyFault}
 use Rattle.promise.specs.Lists.{planned, planAnswer}
 use Rattle.promise.specs.Window.{wordsOf, bytesOf, bytesFault, pack}
 
-abbrev pub fourOf : ℕ → ℕ → ℕ → ℕ → ℕ
-fourOf a b c d = a + 256 * b + 65536 * c + 16777216 * d
-
 abbrev pub twoSet : List ℕ → ℕ → ℕ → List ℕ
 twoSet plan at v = set (set plan at (v % 256)) (at + 1) (v / 256)
 

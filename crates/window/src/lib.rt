@@ -1,13 +1,17 @@
-// The host window: the planner exported on numbers and lent slices.
+// The host window: the planner and the desk exported on numbers and lent slices.
+use figures::Job;
 use promise::Answer;
 ghost use mathlib.Core.Path.{_≡_};
+ghost use mathlib.Core.Bool.{cond};
 ghost use mathlib.Core.List.{_++_};
 ghost use Prim.Native.Nat.{_+_, _*_, _/_, _≤_, _<_, min};
+ghost use lib.Dec.{eqb};
 ghost use lib.ListN.{length, take, drop};
 ghost use lib.Signed.{mag};
 ghost use Rattle.promise.specs.Rows.{rowCount};
 ghost use Rattle.promise.specs.Window.{wordsFrom, bytesOf, pack, Packs, roomWord, PlanBytesPromise, PlanNumbersPromise, RoomBytesPromise};
-ghost use Rattle.window.specs.Bytes.{fourOf, twoSet, earlyFault, RowsPromise};
+ghost use Rattle.promise.specs.DeskWindow.{outputFault, OpenBytesPromise, AdmitBytesPromise, WithdrawBytesPromise, LookBytesPromise, RunBytesPromise};
+ghost use Rattle.window.specs.Bytes.{twoSet, earlyFault, RowsPromise};
 
 // number + 256 × place + 2^32 × amount
 pub fn packed(a: Answer) -> u64
@@ -26,13 +30,6 @@ pub fn room_word(room: i32) -> u64
         return 4294967296 - figures::shortage_of(room) as u64;
     }
     room as u64
-}
-
-// The number of four bytes, lowest first.
-pub fn four(a: u8, b: u8, c: u8, d: u8) -> u32
-    ensures { λ r. ⌜ r ≡ fourOf a b c d ⌝ }
-{
-    a as u32 + 256 * (b as u32) + 65536 * (c as u32) + 16777216 * (d as u32)
 }
 
 // 1, 2 or 3, before any number is read: there is room for the numbers of 32 rows. Else 0.
@@ -63,8 +60,7 @@ pub fn words(list: &[u8], n: usize) -> [u32; 128]
     let mut i = n;
     while 0 < i {
         i -= 1;
-        let at = 4 * i;
-        all[i] = four(list[at], list[at + 1], list[at + 2], list[at + 3]);
+        all[i] = record::word_at(list, i);
     }
     all
 }
@@ -154,4 +150,125 @@ pub extern "C" fn vezhdanur_room(machines: u32, list: &[u8], boundary: u32) -> u
         return packed(answer);
     }
     4294967296 * room_word(told.room)
+}
+
+// Open: an empty desk over the bytes of one record.
+#[no_mangle]
+pub extern "C" fn vezhdanur_open(machines: u32, bytes: &mut [u8]) -> u64
+    ensures { λ r. ⌜ OpenBytesPromise machines (now (bytes .entry)) r (now (bytes .exit)) ⌝ }
+{
+    let opened = desk::open(machines);
+    let count = opened.answer;
+    if count.number != 0 {
+        return packed(count);
+    }
+    if bytes.len() != 776 {
+        return 6;
+    }
+    let empty = opened.desk;
+    record::write_desk(empty, bytes);
+    0
+}
+
+// Admit: the record with the job in its seat, or as it was.
+#[no_mangle]
+pub extern "C" fn vezhdanur_admit(
+    bytes: &mut [u8],
+    number: u32,
+    work: u32,
+    deadline: u32,
+    bound: u32,
+) -> u64
+    ensures { λ r. ⌜ AdmitBytesPromise (now (bytes .entry)) (record { number = number; work = work; deadline = deadline; bound = bound }) r (now (bytes .exit)) ⌝ }
+{
+    if bytes.len() != 776 {
+        return 12;
+    }
+    let job = Job {
+        number,
+        work,
+        deadline,
+        bound,
+    };
+    let admitted = desk::admit(record::read_desk(&bytes[..]), job);
+    let answer = admitted.answer;
+    let next = admitted.desk;
+    record::leave_desk(answer, next, bytes);
+    packed(answer)
+}
+
+// A refusal packed, or a remaining work in the upper half.
+pub fn withdrawn_word(answer: Answer, left: u32) -> u64
+    requires { ⌜ Packs answer ⌝ }
+    ensures { λ r. ⌜ r ≡ cond (eqb (answer .number) 0) (4294967296 * left) (pack answer) ⌝ }
+{
+    if answer.number != 0 {
+        return packed(answer);
+    }
+    4294967296 * (left as u64)
+}
+
+// Withdraw: the record without the job, and its remaining work.
+#[no_mangle]
+pub extern "C" fn vezhdanur_withdraw(bytes: &mut [u8], number: u32) -> u64
+    ensures { λ r. ⌜ WithdrawBytesPromise (now (bytes .entry)) number r (now (bytes .exit)) ⌝ }
+{
+    if bytes.len() != 776 {
+        return 12;
+    }
+    let withdrawn = desk::withdraw(record::read_desk(&bytes[..]), number);
+    let answer = withdrawn.answer;
+    let next = withdrawn.desk;
+    record::leave_desk(answer, next, bytes);
+    withdrawn_word(answer, withdrawn.left)
+}
+
+// 12, then 6 for an output buffer of fewer bytes than are written. Else 0.
+pub fn output_fault(bytes: &[u8], lent: usize, written: usize) -> u32
+    ensures { λ r. ⌜ r ≡ (outputFault (now (bytes .entry)) lent written) .number ⌝ }
+{
+    if bytes.len() != 776 {
+        return 12;
+    }
+    let unsound = desk::sound_fault(record::read_desk(bytes));
+    if unsound.number != 0 {
+        return 12;
+    }
+    if lent < written {
+        return 6;
+    }
+    0
+}
+
+// Look: what is left of a job, its deadline, bound and leeway.
+#[no_mangle]
+pub extern "C" fn vezhdanur_look(bytes: &[u8], number: u32, told: &mut [u8]) -> u64
+    ensures { λ r. ⌜ LookBytesPromise (now (bytes .entry)) number (now (told .entry)) r (now (bytes .exit)) (now (told .exit)) ⌝ }
+{
+    let fault = output_fault(bytes, told.len(), 16);
+    if fault != 0 {
+        return fault as u64;
+    }
+    let looked = desk::look(record::read_desk(bytes), number);
+    let answer = looked.answer;
+    record::leave_figures(answer, looked, told);
+    packed(answer)
+}
+
+// Run: slot 1 of the plan given out, and the record after it.
+#[no_mangle]
+pub extern "C" fn vezhdanur_run(bytes: &mut [u8], given: &mut [u8]) -> u64
+    ensures { λ r. ⌜ RunBytesPromise (now (bytes .entry)) (now (given .entry)) r (now (bytes .exit)) (now (given .exit)) ⌝ }
+{
+    let fault = output_fault(&bytes[..], given.len(), 256);
+    if fault != 0 {
+        return fault as u64;
+    }
+    let ran = desk::run(record::read_desk(&bytes[..]));
+    let answer = ran.answer;
+    let pairs = ran.given;
+    record::leave_pairs(answer, pairs, given);
+    let next = ran.desk;
+    record::leave_desk(answer, next, bytes);
+    packed(answer)
 }
