@@ -12,7 +12,7 @@ use Rattle.promise.specs.declared.Desk.{Desk}
 use Rattle.promise.specs.Desk.{unused}
 use Rattle.promise.specs.Window.{wordAt, wordsFrom, sent}
 use Rattle.promise.specs.DeskClaims.{Seated}
-use Rattle.promise.specs.DeskWindow.{seatNumbers, deskNumbers, deskBytes, seatAt, seatsFrom, deskFrom}
+use Rattle.promise.specs.DeskWindow.{seatNumbers, deskNumbers, deskBytes, seatAt, seatsFrom, deskRead}
 use Rattle.promise.specs.DeskWindowClaims.{RecordsAreReadBack, RecordsAreWrittenBack}
 use Rattle.promise.proofs.Words.{sent-length, word-on, words-on, first-word, bytes-sent}
 use Rattle.promise.proofs.Buffer.{flat-length, flat-at}
@@ -75,8 +75,8 @@ module _ (machines clock : ℕ) (seats : List Held) where
   seats-read i (suc n) e =
       ap₂ _∷_ (seat-read i (omega arith)) (seats-read (suc i) n (omega arith)) ∙ sym (drop-cons seats i unused (omega arith))
 
-desk-read : (desk : Desk) → Seated desk → deskFrom (deskBytes desk) ≡ desk
-unfolding deskFrom deskBytes deskNumbers written
+desk-read : (desk : Desk) → Seated desk → deskRead (deskBytes desk) ≡ desk
+unfolding deskRead deskBytes deskNumbers written
 desk-read desk e = λ t. record {
   machines = word-sent (deskNumbers desk) 0 t;
   clock = word-sent (deskNumbers desk) 1 t;
@@ -133,12 +133,12 @@ seats-count : (bytes : List ℕ) (i n : ℕ) → length (seatsFrom bytes i n) �
 seats-count bytes i zero = refl
 seats-count bytes i (suc n) = ap suc (seats-count bytes (suc i) n)
 
-pub from-seated : (bytes : List ℕ) → Seated (deskFrom bytes)
-unfolding deskFrom
+pub from-seated : (bytes : List ℕ) → Seated (deskRead bytes)
+unfolding deskRead
 from-seated bytes = seats-count bytes 0 32
 
 pub records-are-written-back : RecordsAreWrittenBack
-unfolding deskBytes deskNumbers deskFrom
+unfolding deskBytes deskNumbers deskRead
 records-are-written-back bytes e h = (
   ap (λ (ns : List ℕ). sent (wordAt bytes 0 ∷ wordAt bytes 1 ∷ ns)) (seats-words bytes 0 32) ∙ sent-back bytes 194 e h,
   from-seated bytes,

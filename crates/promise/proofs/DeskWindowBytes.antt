@@ -19,7 +19,7 @@ use Rattle.promise.specs.History as History
 use Rattle.promise.specs.History.{Call, admit, withdraw, look, run, deskAfter}
 use Rattle.promise.specs.DeskClaims.{Seated, WholeOutcome}
 use Rattle.promise.specs.Window.{wordAt, sent}
-use Rattle.promise.specs.DeskWindow.{deskBytes, deskFrom, recordFault, outputFault, recordLeft, outputLeft, openBytesAnswer, recordOpened, admitBytesAnswer, recordAdmitted, withdrawBytesAnswer, recordWithdrawn, lookNumbers, lookBytesAnswer, figuresTold, pairNumbers, runBytesAnswer, recordRun, pairsTold, recordAfter}
+use Rattle.promise.specs.DeskWindow.{deskBytes, deskRead, recordFault, outputFault, recordLeft, outputLeft, openBytesAnswer, recordOpened, admitBytesAnswer, recordAdmitted, withdrawBytesAnswer, recordWithdrawn, lookNumbers, lookBytesAnswer, figuresTold, pairNumbers, runBytesAnswer, recordRun, pairsTold, recordAfter}
 use Rattle.promise.specs.DeskWindowClaims.{LeftAsLent, LengthsStay, DeskWindowRefusalLeavesTheBytes, DeskHandedOn, DeskWindowHandsTheDeskOn, GoesOn, HistoryGoesThroughTheWindow, FiguresInPlace, PairsInPlace, DeskWindowTellsInPlace}
 use Rattle.promise.proofs.Ladder.{same-number, first-zero, first-zero-front, first-first}
 use Rattle.promise.proofs.Words.{sent-length}
@@ -32,10 +32,10 @@ use Rattle.promise.proofs.DeskWindowing.{no-job, a-record, record-long,
 
 -- the numbers that Look and Run write
 abbrev looks : List ℕ → ℕ → List ℕ
-looks bytes n = lookNumbers (lookOf (deskFrom bytes) n)
+looks bytes n = lookNumbers (lookOf (deskRead bytes) n)
 
 abbrev pairing : List ℕ → List ℕ
-pairing bytes = flatten (map pairNumbers ((runOf (deskFrom bytes)) .given))
+pairing bytes = flatten (map pairNumbers ((runOf (deskRead bytes)) .given))
 
 record-stays : (a : Answer) (new : Desk) (bytes : List ℕ) → a .number ≢ 0 → recordLeft a new bytes ≡ bytes
 record-stays a new bytes h = rw (ne-eqb (a .number) 0 h)
@@ -72,11 +72,11 @@ output-same a numbers lent f = go (eqb (a .number) 0) refl
 module _ (bytes : List ℕ) (lent size : ℕ) (z : (outputFault bytes lent size) .number ≡ 0) where
   pub output-record : length bytes ≡ 776
   unfolding outputFault
-  output-record = record-long bytes (first-zero-front (recordFault bytes) _ (first-zero-front (first (recordFault bytes) (soundFault (deskFrom bytes))) _ z))
+  output-record = record-long bytes (first-zero-front (recordFault bytes) _ (first-zero-front (first (recordFault bytes) (soundFault (deskRead bytes))) _ z))
 
   pub output-long : size ≤ lent
   unfolding outputFault
-  output-long = go (ltb lent size) refl (first-zero (first (recordFault bytes) (soundFault (deskFrom bytes))) _ z)
+  output-long = go (ltb lent size) refl (first-zero (first (recordFault bytes) (soundFault (deskRead bytes))) _ z)
     where
       go : (t : Bool) → ltb lent size ≡ t → (fault t (refusal 6 0 0)) .number ≡ 0 → size ≤ lent
       go true e z = absurd (omega arith)
@@ -87,11 +87,11 @@ opened-whole machines = sound-seated _ (soundness-is-kept .0 machines)
 
 -- what a call on a record returns is whole
 module _ (bytes : List ℕ) where
-  whole : WholeOutcome (deskFrom bytes)
-  whole = desk-calls-leave-one .1 (deskFrom bytes) (from-seated bytes) .1
+  whole : WholeOutcome (deskRead bytes)
+  whole = desk-calls-leave-one .1 (deskRead bytes) (from-seated bytes) .1
 
   pair-numbers : length (pairing bytes) ≡ 64
-  pair-numbers = omega (arith, each-length pairNumbers 2 (λ g. refl) ((runOf (deskFrom bytes)) .given), whole .pairs)
+  pair-numbers = omega (arith, each-length pairNumbers 2 (λ g. refl) ((runOf (deskRead bytes)) .given), whole .pairs)
 
   module _ (j : Job) (n : ℕ) (lent : List ℕ) where
     lengths-stay : (machines : ℕ) → LengthsStay machines bytes j n lent
@@ -112,10 +112,10 @@ desk-window-refusal-leaves-the-bytes machines bytes j n lent = (left-as-lent mac
 
 -- ---- the desk, handed on
 
-record-read : (a : Answer) (new : Desk) (bytes : List ℕ) → Seated new → (a .number ≢ 0 → new ≡ deskFrom bytes) → deskFrom (recordLeft a new bytes) ≡ new
+record-read : (a : Answer) (new : Desk) (bytes : List ℕ) → Seated new → (a .number ≢ 0 → new ≡ deskRead bytes) → deskRead (recordLeft a new bytes) ≡ new
 record-read a new bytes s f = go (eqb (a .number) 0) refl
   where
-    go : (t : Bool) → eqb (a .number) 0 ≡ t → deskFrom (cond t (deskBytes new) bytes) ≡ new
+    go : (t : Bool) → eqb (a .number) 0 ≡ t → deskRead (cond t (deskBytes new) bytes) ≡ new
     go true e = records-are-read-back new s .0
     go false e = sym (f (eqb-false (a .number) 0 e))
 
@@ -130,13 +130,13 @@ first-twice a b = go (eqb (a .number) 0) refl
 module _ (bytes : List ℕ) (e : length bytes ≡ 776) where
   -- with room for what is written, the test of the buffer changes no answer
   room-same : (lent : List ℕ) (size : ℕ) (rest : Answer) → size ≤ length lent
-      → first (outputFault bytes (length lent) size) (first (soundFault (deskFrom bytes)) rest) ≡ first (soundFault (deskFrom bytes)) rest
+      → first (outputFault bytes (length lent) size) (first (soundFault (deskRead bytes)) rest) ≡ first (soundFault (deskRead bytes)) rest
   unfolding outputFault
   room-same lent size rest l =
-      let twelve = soundFault (deskFrom bytes) in
+      let twelve = soundFault (deskRead bytes) in
       rw (a-record bytes e, le-ltb (length lent) size l) (first-first twelve Answers.yes (first twelve rest) ∙ first-twice twelve rest)
 
-  answered-on : GoesOn bytes (deskFrom bytes)
+  answered-on : GoesOn bytes (deskRead bytes)
   unfolding admitBytesAnswer withdrawBytesAnswer lookBytesAnswer runBytesAnswer lookOf findAnswer runOf runAnswer
   answered-on = record {
     held = refl;
@@ -150,14 +150,14 @@ module _ (bytes : List ℕ) (e : length bytes ≡ 776) where
   unfolding recordAdmitted admitBytesAnswer recordWithdrawn withdrawBytesAnswer recordRun
   desk-handed-on =
       let w = whole bytes in
-      let back = refusal-hands-the-desk-back (deskFrom bytes) in
+      let back = refusal-hands-the-desk-back (deskRead bytes) in
       record {
         admit = λ j. record-read (admitBytesAnswer bytes j) _ bytes (w .admit j) (λ h. back .admit j (λ z. h (rw (a-record bytes e) z)));
         withdraw = λ n. record-read (withdrawBytesAnswer bytes n) _ bytes (w .withdraw n) (λ h. back .withdraw n (λ z. h (rw (a-record bytes e) z)));
         run = λ lent l. record-read (runBytesAnswer bytes lent) _ bytes (w .run) (λ h. back .run (λ z. h (rw (answered-on .run lent l) z)));
       }
 
-  open-handed-on : (machines : ℕ) → 1 ≤ machines → machines ≤ 64 → deskFrom (recordOpened machines bytes) ≡ (openOf machines) .desk
+  open-handed-on : (machines : ℕ) → 1 ≤ machines → machines ≤ 64 → deskRead (recordOpened machines bytes) ≡ (openOf machines) .desk
   unfolding recordOpened
   open-handed-on machines l k =
       record-read (openBytesAnswer machines bytes) _ bytes (opened-whole machines) (λ h. absurd (h (same-number (opened-in-order machines bytes .opens l k e))))
@@ -167,7 +167,7 @@ desk-window-hands-the-desk-on bytes e = (open-handed-on bytes e, desk-handed-on 
 
 -- each call on the record that the last one left
 history-goes-on : (given bytes : List ℕ) (calls : List Call) → 256 ≤ length given → length bytes ≡ 776
-    → (length (recordAfter given bytes calls) ≡ 776) × (deskFrom (recordAfter given bytes calls) ≡ History.deskFrom (deskFrom bytes) calls)
+    → (length (recordAfter given bytes calls) ≡ 776) × (deskRead (recordAfter given bytes calls) ≡ History.deskFrom (deskRead bytes) calls)
 history-goes-on given bytes [] l e = (e, refl)
 history-goes-on given bytes (admit j ∷ calls) l e =
     let h = history-goes-on given (recordAdmitted bytes j) calls l (lengths-stay bytes j 0 given 1 .admit ∙ e) in
@@ -177,7 +177,7 @@ history-goes-on given bytes (withdraw n ∷ calls) l e =
     (h .0, h .1 ∙ ap (λ (d : Desk). History.deskFrom d calls) (desk-handed-on bytes e .withdraw n))
 history-goes-on given bytes (look n ∷ calls) l e =
     let h = history-goes-on given bytes calls l e in
-    (h .0, h .1 ∙ ap (λ (d : Desk). History.deskFrom d calls) (sym (refusal-hands-the-desk-back (deskFrom bytes) .look n)))
+    (h .0, h .1 ∙ ap (λ (d : Desk). History.deskFrom d calls) (sym (refusal-hands-the-desk-back (deskRead bytes) .look n)))
 history-goes-on given bytes (run ∷ calls) l e =
     let h = history-goes-on given (recordRun bytes given) calls l (lengths-stay bytes no-job 0 given 1 .run .0 ∙ e) in
     (h .0, h .1 ∙ ap (λ (d : Desk). History.deskFrom d calls) (desk-handed-on bytes e .run given l))
@@ -214,7 +214,7 @@ figures-in-place bytes n lent z =
 pairs-in-place : (bytes lent : List ℕ) → (runBytesAnswer bytes lent) .number ≡ 0 → PairsInPlace bytes lent
 unfolding pairsTold
 pairs-in-place bytes lent z =
-    let given = (runOf (deskFrom bytes)) .given in
+    let given = (runOf (deskRead bytes)) .given in
     let word = output-word (runBytesAnswer bytes lent) (pairing bytes) lent z in
     let at = each-at pairNumbers 2 (λ g. refl) given in
     record {

@@ -18,7 +18,7 @@ use Rattle.promise.specs.Rows.{Field, the-number, the-work, the-deadline
 use Rattle.promise.specs.DeskCalls.{isSound, soundFault, isHeld, admitWindow, deskFit, openOf, admitAnswer, admitOf, findAnswer, withdrawOf, lookOf, runAnswer, runOf, DeskTest, asked, DeskHolds, deskAnswerOf}
 use Rattle.promise.specs.DeskClaims.{Seated}
 use Rattle.promise.specs.Window.{pack, Packs}
-use Rattle.promise.specs.DeskWindow.{deskFrom, recordFault, outputFault, openBytesAnswer, admitBytesAnswer, withdrawBytesAnswer, withdrawPacked, lookBytesAnswer, runBytesAnswer}
+use Rattle.promise.specs.DeskWindow.{deskRead, recordFault, outputFault, openBytesAnswer, admitBytesAnswer, withdrawBytesAnswer, withdrawPacked, lookBytesAnswer, runBytesAnswer}
 use Rattle.promise.specs.DeskWindowClaims.{DeskWindowPacks}
 use Rattle.promise.proofs.Ladder.{first-zero, first-zero-front, zero-none}
 use Rattle.promise.proofs.DeskTable.{asks, gives-fields, desk-refuses}
@@ -81,16 +81,16 @@ module _ (bytes : List ℕ) where
   output-packs : (lent size : ℕ) → Packs (outputFault bytes lent size)
   unfolding outputFault
   output-packs lent size =
-      first-keeps Packs _ _ (first-keeps Packs _ _ record-packs (λ _. twelve-packs (deskFrom bytes) (from-seated bytes)))
+      first-keeps Packs _ _ (first-keeps Packs _ _ record-packs (λ _. twelve-packs (deskRead bytes) (from-seated bytes)))
       (λ _. small-packs (whole-small (ltb lent size) 6 (omega arith)))
 
   -- a yes of Withdraw: the remaining work in the upper half
   module _ (n : ℕ) (z : (withdrawBytesAnswer bytes n) .number ≡ 0) where
-    withdrawn-small : (withdrawOf (deskFrom bytes) n) .left ≤ 60000
+    withdrawn-small : (withdrawOf (deskRead bytes) n) .left ≤ 60000
     unfolding withdrawBytesAnswer withdrawOf
-    withdrawn-small = left-small (deskFrom bytes) (from-seated bytes) n (first-zero (recordFault bytes) _ z)
+    withdrawn-small = left-small (deskRead bytes) (from-seated bytes) n (first-zero (recordFault bytes) _ z)
 
-    withdrawn-word : withdrawPacked bytes n ≡ 4294967296 * (withdrawOf (deskFrom bytes) n) .left
+    withdrawn-word : withdrawPacked bytes n ≡ 4294967296 * (withdrawOf (deskRead bytes) n) .left
     unfolding withdrawPacked
     withdrawn-word = rw (eq-eqb ((withdrawBytesAnswer bytes n) .number) 0 z)
 
@@ -101,7 +101,7 @@ module _ (bytes : List ℕ) where
 pub desk-window-packs : DeskWindowPacks
 unfolding openBytesAnswer openOf admitBytesAnswer admitOf withdrawBytesAnswer withdrawOf lookBytesAnswer lookOf runBytesAnswer runOf
 desk-window-packs machines bytes j n lent =
-    let desk = deskFrom bytes in
+    let desk = deskRead bytes in
     let seated = from-seated bytes in
     record {
       open′ = first-keeps Packs _ _ (small-packs (count-small machines)) (λ _. small-packs (whole-small (not (eqb (length bytes) 776)) 6 (omega arith)));

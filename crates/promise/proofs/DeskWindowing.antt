@@ -17,7 +17,7 @@ use Rattle.promise.specs.Desk.{Sound}
 use Rattle.promise.specs.DeskCalls.{soundFault, openOf, admitAnswer, admitOf, findAnswer, withdrawOf, lookOf, runAnswer, runOf, DeskTest, not-sound, not-held, at-the-end, HeldAs, DeskHolds, deskAnswerOf, findOrder, runOrder}
 use Rattle.promise.specs.Order.{FirstOf, GivenBy}
 use Rattle.promise.specs.DeskClaims.{Seated}
-use Rattle.promise.specs.DeskWindow.{deskFrom, recordFault, outputFault, openBytesAnswer, admitBytesAnswer, withdrawBytesAnswer, lookBytesAnswer, runBytesAnswer}
+use Rattle.promise.specs.DeskWindow.{deskRead, recordFault, outputFault, openBytesAnswer, admitBytesAnswer, withdrawBytesAnswer, lookBytesAnswer, runBytesAnswer}
 use Rattle.promise.specs.DeskWindowClaims.{OpenedInOrder, TwelveFirst, AnsweredInOrder, DeskWindowAnswersByTheTable, DeskWindowPromisesLeaveOne}
 use Rattle.promise.proofs.Ladder.{same-number, first-zero}
 use Rattle.promise.proofs.DeskSound.{tells-sound}
@@ -74,14 +74,14 @@ module _ (bytes : List ℕ) where
     unfolding admitBytesAnswer withdrawBytesAnswer lookBytesAnswer runBytesAnswer outputFault
     wrong-length h = let e = not-a-record h in record { admit = rw e refl; withdraw = rw e refl; look = rw e refl; run = rw e refl }
 
-    wrong-record : length bytes ≡ 776 → ¬ Sound (deskFrom bytes) → TwelveFirst bytes j n lent
+    wrong-record : length bytes ≡ 776 → ¬ Sound (deskRead bytes) → TwelveFirst bytes j n lent
     unfolding admitBytesAnswer withdrawBytesAnswer lookBytesAnswer runBytesAnswer outputFault admitOf admitAnswer withdrawOf findAnswer
     wrong-record e h =
         let r = a-record e in
-        let u = unsound-twelve (deskFrom bytes) (from-seated bytes) h in
+        let u = unsound-twelve (deskRead bytes) (from-seated bytes) h in
         record { admit = rw (r, u) refl; withdraw = rw (r, u) refl; look = rw (r, u) refl; run = rw (r, u) refl }
 
-    twelve-first : (length bytes ≢ 776) ⊎ (¬ Sound (deskFrom bytes)) → TwelveFirst bytes j n lent
+    twelve-first : (length bytes ≢ 776) ⊎ (¬ Sound (deskRead bytes)) → TwelveFirst bytes j n lent
     twelve-first (inl h) = wrong-length h
     twelve-first (inr h) = go (ℕ-discrete (length bytes) 776)
       where
@@ -89,34 +89,34 @@ module _ (bytes : List ℕ) where
         go (yes e) = wrong-record e h
         go (no k) = wrong-length k
 
-    module _ (e : length bytes ≡ 776) (s : Sound (deskFrom bytes)) where
+    module _ (e : length bytes ≡ 776) (s : Sound (deskRead bytes)) where
       short-six : (size : ℕ) → length lent < size → outputFault bytes (length lent) size ≡ refusal 6 0 0
       unfolding outputFault
-      short-six size l = rw (a-record e, sound-clear (deskFrom bytes) (from-seated bytes) s, lt-ltb (length lent) size l) refl
+      short-six size l = rw (a-record e, sound-clear (deskRead bytes) (from-seated bytes) s, lt-ltb (length lent) size l) refl
 
       long-clear : (size : ℕ) → size ≤ length lent → outputFault bytes (length lent) size ≡ Answers.yes
       unfolding outputFault
-      long-clear size l = rw (a-record e, sound-clear (deskFrom bytes) (from-seated bytes) s, le-ltb (length lent) size l) refl
+      long-clear size l = rw (a-record e, sound-clear (deskRead bytes) (from-seated bytes) s, le-ltb (length lent) size l) refl
 
       -- the rows of the calls
-      by-table : GivenBy (DeskHolds (deskFrom bytes) j) (deskAnswerOf (deskFrom bytes) j) (findOrder n) (findAnswer (deskFrom bytes) n)
-          × GivenBy (DeskHolds (deskFrom bytes) j) (deskAnswerOf (deskFrom bytes) j) runOrder (runAnswer (deskFrom bytes))
-      by-table = let t = desk-answers-by-the-table (deskFrom bytes) j n (from-seated bytes) in (t .1, t .2)
+      by-table : GivenBy (DeskHolds (deskRead bytes) j) (deskAnswerOf (deskRead bytes) j) (findOrder n) (findAnswer (deskRead bytes) n)
+          × GivenBy (DeskHolds (deskRead bytes) j) (deskAnswerOf (deskRead bytes) j) runOrder (runAnswer (deskRead bytes))
+      by-table = let t = desk-answers-by-the-table (deskRead bytes) j n (from-seated bytes) in (t .1, t .2)
 
       -- the second row of two, the first of which is 12
-      second : (x : DeskTest) → DeskHolds (deskFrom bytes) j x → FirstOf (DeskHolds (deskFrom bytes) j) (not-sound ∷ x ∷ []) x
+      second : (x : DeskTest) → DeskHolds (deskRead bytes) j x → FirstOf (DeskHolds (deskRead bytes) j) (not-sound ∷ x ∷ []) x
       second x h = record { earlier = not-sound ∷ []; later = []; split = refl; holds = h; none-earlier = ((λ k. k s), tt) }
 
-      ten : ¬ HeldAs (deskFrom bytes) n → findAnswer (deskFrom bytes) n ≡ refusal 10 0 0
+      ten : ¬ HeldAs (deskRead bytes) n → findAnswer (deskRead bytes) n ≡ refusal 10 0 0
       ten h = by-table .0 .told (not-held n) (second (not-held n) h)
 
-      found : HeldAs (deskFrom bytes) n → findAnswer (deskFrom bytes) n ≡ Answers.yes
+      found : HeldAs (deskRead bytes) n → findAnswer (deskRead bytes) n ≡ Answers.yes
       found h = by-table .0 .otherwise .0 ((λ k. k s), ((λ k. k h), tt))
 
-      eleven : (deskFrom bytes) .clock ≡ 100000 → runAnswer (deskFrom bytes) ≡ refusal 11 0 0
+      eleven : (deskRead bytes) .clock ≡ 100000 → runAnswer (deskRead bytes) ≡ refusal 11 0 0
       eleven h = by-table .1 .told at-the-end (second at-the-end h)
 
-      runs : (deskFrom bytes) .clock ≢ 100000 → runAnswer (deskFrom bytes) ≡ Answers.yes
+      runs : (deskRead bytes) .clock ≢ 100000 → runAnswer (deskRead bytes) ≡ Answers.yes
       runs h = by-table .1 .otherwise .0 ((λ k. k s), (h, tt))
 
       answered-in-order : AnsweredInOrder bytes j n lent

@@ -1,10 +1,10 @@
 -- J: what the reader answers, for every run of bytes.
-use Prim.Native.Nat.{ℕ, _*_, _-_, _/_, _≤_, _<_}
+use Prim.Native.Nat.{ℕ, _-_, _/_, _≤_, _<_}
 use native.Mathlib.Decide.{decLt}
 use native.Mathlib.Omega.{arith}
 use mathlib.Core.Path.{_≡_, refl, sym, _∙_, ap}
 use mathlib.Core.Logic.{_≢_, _⊎_, inl, inr, _↔_}
-use mathlib.Core.List.{List, [], _∷_}
+use mathlib.Core.List.{List, _∷_}
 use lib.ListN.{length}
 use borrow.Author.Tests.{lt-ltb, le-ltb}
 use Rattle.promise.specs.declared.Answer.{Answer}
@@ -12,8 +12,9 @@ use Rattle.promise.specs.declared.Reading.{Reading}
 use Rattle.promise.specs.Answers.{refusal}
 use Rattle.promise.specs.Answers as answers
 use Rattle.promise.specs.Texts.{padded}
-use Rattle.promise.specs.JobFile.{Group, File, fileText, Typed, GoodFile, BadLine, Said, bad, says, fileSays, readingFrom, notRead, readingSaid, readingOf, numbersOf}
-use Rattle.promise.specs.TextClaims.{FileIsRead}
+use Rattle.promise.specs.JobFile.{File, fileText, Typed, GoodFile, BadLine, Said, bad, says, fileSays, readingFrom, notRead, readingSaid, readingOf, numbersOf}
+use Rattle.promise.specs.TextClaims.{nothing, FileIsRead}
+use Rattle.promise.proofs.FileJobs.{numbers-length}
 use Rattle.promise.proofs.FileRead.{says-file, bad-said, good-said, said-good, said-bad}
 
 -- a long file, and one that is not
@@ -44,10 +45,6 @@ unfolding notRead readingFrom
 said-fourteen (bad m) e = omega (arith, ap (λ (a : Answer). a .number) e)
 said-fourteen (says ns) e = omega (arith, ap (λ (a : Answer). a .number) e)
 
-pub numbers-length : (gs : List Group) → length (numbersOf gs) ≡ 4 * length gs
-numbers-length [] = omega arith
-numbers-length (g ∷ gs) = omega (arith, numbers-length gs)
-
 module _ (bytes : List ℕ) where
   fourteen : ((readingOf bytes) .answer ≡ refusal 14 0 0) ↔ (4096 < length bytes)
   unfolding notRead
@@ -58,10 +55,10 @@ module _ (bytes : List ℕ) where
       go (no l) e = absurd (said-fourteen (fileSays bytes) (sym (answer-of (short-read bytes (omega arith))) ∙ e))
 
   abbrev OneOfThese : Type 0
-  OneOfThese = ((readingOf bytes) .answer ≡ answers.yes) ⊎ ((ℓ : ℕ) × (readingOf bytes ≡ notRead (refusal 13 ℓ 0))) ⊎ (readingOf bytes ≡ notRead (refusal 14 0 0))
+  OneOfThese = ((readingOf bytes) .answer ≡ answers.yes) ⊎ ((ℓ : ℕ) × (readingOf bytes ≡ nothing (refusal 13 ℓ 0))) ⊎ (readingOf bytes ≡ nothing (refusal 14 0 0))
 
   one-of-these : OneOfThese
-  unfolding readingFrom
+  unfolding readingFrom notRead
   one-of-these = go (decLt 4096 (length bytes))
     where
       short : (s : Said) → readingOf bytes ≡ readingSaid s → OneOfThese

@@ -17,9 +17,10 @@ use Rattle.promise.specs.Answers.{refusal, fault, first, fitAnswer}
 use Rattle.promise.specs.Answers as answers
 use Rattle.promise.specs.Rows.{rowAt, rowCount, jobRows, jobsOf, Field, the-number, the-work, the-deadline, the-bound, fieldNumber, fieldOf, listWindow, least, greatest, fieldFault, fieldsFault, seenBefore, seenFault, rowsFault, countFault, lengthFault, manyFault, listFault}
 use Rattle.promise.specs.Lists.{planned, planAnswer}
-use Rattle.promise.specs.JobFile.{Group, numbersOf}
+use Rattle.promise.specs.JobFile.{Group, File, numbersOf}
 use Rattle.promise.specs.PlanText.{rowsAnswer}
-use Rattle.promise.specs.TextClaims.{FilesAreNoTwoNorSix}
+use Rattle.promise.specs.TextClaims.{fileAnswer, FilesAreNoTwoNorSix}
+use Rattle.promise.proofs.Ladder.{same-number}
 
 -- four numbers in front are one row in front
 row-behind : (a b c d : ℕ) (rows : List ℕ) (i : ℕ) → rowAt (a ∷ b ∷ c ∷ d ∷ rows) (suc i) ≡ rowAt rows i
@@ -63,6 +64,11 @@ numbers-by-jobs gs hs e = alone gs ∙ ap told e ∙ sym (alone hs)
     alone : (gs : List Group) → numbersOf gs ≡ told (map (λ (g : Group). g .job) gs)
     alone [] = refl
     alone (g ∷ gs) = ap (λ (ns : List ℕ). g .job .number ∷ g .job .work ∷ g .job .deadline ∷ g .job .bound ∷ ns) (alone gs)
+
+-- the answer for a file is the one for its rows
+pub file-answer : (f : File) → fileAnswer f ≡ rowsAnswer (f .machines) (numbersOf (f .groups))
+unfolding rowsAnswer
+file-answer f = ap (λ (n : ℕ). planAnswer (f .machines) (numbersOf (f .groups)) (168 * n)) (sym (file-rows (f .groups)))
 
 -- neither 2 nor 6
 record Other (a : Answer) : Type 0 where
@@ -127,4 +133,5 @@ other-answer machines rows e =
 
 pub files-are-no-two-nor-six : FilesAreNoTwoNorSix
 files-are-no-two-nor-six f =
-    let o = other-answer (f .machines) (numbersOf (f .groups)) (omega (arith, numbers-length (f .groups))) in (o .two, o .six)
+    let o = other-answer (f .machines) (numbersOf (f .groups)) (omega (arith, numbers-length (f .groups))) in
+    ((λ e. o .two (sym (same-number (file-answer f)) ∙ e)), λ e. o .six (sym (same-number (file-answer f)) ∙ e))

@@ -24,7 +24,7 @@ use Rattle.promise.proofs.Ladder.{same-number, none-holds}
 use Rattle.promise.proofs.Table.{gives-list}
 use Rattle.promise.proofs.Sound.{Passes, planned-numbers, planned-distinct, answers-fit, yes-passes, few-rows}
 use Rattle.promise.proofs.Buffer.{numbers-length, numbers-at}
-use Rattle.promise.proofs.FileJobs.{jobs-of-file, numbers-length as file-length}
+use Rattle.promise.proofs.FileJobs.{file-answer, jobs-of-file, numbers-length as file-length}
 use Rattle.promise.proofs.Printing.{text-is-printed}
 
 -- two places of distinct numbers
@@ -136,7 +136,7 @@ module _ (machines : ℕ) (rows rows′ : List ℕ) (p : Perm (jobsOf rows) (job
 pub file-order-plays-no-part : FileOrderPlaysNoPart
 unfolding planned
 file-order-plays-no-part f g t u m p l k z =
-    (text-is-printed (fileText g)) .planned k g u refl (rw (← m) planned-too)
+    (text-is-printed (fileText g)) .planned k g u refl (same-number (file-answer g) ∙ rw (← m) planned-too)
     ∙ ap (λ (c : ℕ). printedPlan c (fileJobs g) (fileJobs g)) (sym m)
     ∙ ap (λ (ls : List (List ℕ)). ended (numberLine MachinesLine (f .machines) ∷ ascii "result=plan" ∷ ls))
     (lines-same (f .machines) (counted (f .machines) (fileJobs g)) (counted (f .machines) (fileJobs f)) plans (fileJobs g))
@@ -147,14 +147,17 @@ file-order-plays-no-part f g t u m p l k z =
     rows′ : List ℕ
     rows′ = numbersOf (g .groups)
 
+    answered : (rowsAnswer (f .machines) rows) .number ≡ 0
+    answered = sym (same-number (file-answer f)) ∙ z
+
     listed : Perm (jobsOf rows) (jobsOf rows′)
     listed = rw (jobs-of-file (f .groups), jobs-of-file (g .groups)) p
 
     planned-too : (rowsAnswer (f .machines) rows′) .number ≡ 0
-    planned-too = planned-again (f .machines) rows rows′ listed z (omega (arith, file-length (g .groups)))
+    planned-too = planned-again (f .machines) rows rows′ listed answered (omega (arith, file-length (g .groups)))
 
     plans : (n t : ℕ) → plan (f .machines) (counted (f .machines) (fileJobs g)) n t ≡ plan (f .machines) (counted (f .machines) (fileJobs f)) n t
     plans n t =
         ap (λ (js : List Job). plan (f .machines) (counted (f .machines) js) n t) (sym (jobs-of-file (g .groups)))
-        ∙ sym ((same (f .machines) rows rows′ listed z) .machines n t)
+        ∙ sym ((same (f .machines) rows rows′ listed answered) .machines n t)
         ∙ ap (λ (js : List Job). plan (f .machines) (counted (f .machines) js) n t) (jobs-of-file (f .groups))

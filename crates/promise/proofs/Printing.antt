@@ -22,9 +22,10 @@ use Rattle.promise.specs.Texts.{ascii, ended}
 use Rattle.promise.specs.JobFile.{numberLine, File, fileText, Typed, fileSays, numbersOf}
 use Rattle.promise.specs.PlanText.{refusalText, pairText, pairsFrom, runLine, jobsLines, plannedText, rowsAnswer, rowsText, textSaid, planText, runLineOf, linesByNumber}
 use Rattle.promise.specs.TextClaims.{printedPlan, TextIsPrinted, PairsAreTheSlotsInUse, LabelsPlayNoPart}
+use Rattle.promise.proofs.Ladder.{same-number}
 use Rattle.promise.proofs.Sound.{Passes, planned-distinct, planned-deadlines, yes-passes}
 use Rattle.promise.proofs.FileRead.{says-file, bad-said}
-use Rattle.promise.proofs.FileJobs.{jobs-of-file, numbers-by-jobs}
+use Rattle.promise.proofs.FileJobs.{file-answer, jobs-of-file, numbers-by-jobs}
 
 -- a text that is not too long
 pub short-text : (bytes : List ℕ) → length bytes ≤ 4096 → planText bytes ≡ textSaid (fileSays bytes)
@@ -76,11 +77,15 @@ pub text-is-printed : TextIsPrinted
 text-is-printed bytes = record {
   too-long = long-text bytes;
   bad-line = λ l ℓ b. short-text bytes l ∙ ap textSaid (bad-said bytes ℓ b);
-  refused = λ l f t e n. file-text f t bytes l e ∙ refused-text (f .machines) (numbersOf (f .groups)) n;
-  planned = λ l f t e z.
+  refused = λ l f t e n.
       file-text f t bytes l e
-      ∙ planned-text (f .machines) (numbersOf (f .groups)) z
-      ∙ printed-rows (f .machines) (numbersOf (f .groups)) z
+      ∙ refused-text (f .machines) (numbersOf (f .groups)) (λ z. n (same-number (file-answer f) ∙ z))
+      ∙ ap refusalText (sym (file-answer f));
+  planned = λ l f t e z.
+      let y = sym (same-number (file-answer f)) ∙ z in
+      file-text f t bytes l e
+      ∙ planned-text (f .machines) (numbersOf (f .groups)) y
+      ∙ printed-rows (f .machines) (numbersOf (f .groups)) y
       ∙ ap (λ (js : List Job). printedPlan (f .machines) js js) (jobs-of-file (f .groups));
 }
 

@@ -25,13 +25,14 @@ use Rattle.promise.specs.Lists.{planned, Holds, answerOf}
 use Rattle.promise.specs.Texts.{ascii, decimal, ended, padded}
 use Rattle.promise.specs.JobFile.{Said, bad, says, fileSays, File, BadLine, numbersOf}
 use Rattle.promise.specs.PlanText.{refusalText, pairText, pairsFrom, eachAfterComma, withCommas, runLine, rowsAnswer, rowsText, textSaid, planText, runLineOf, linesByNumber, TextPromise}
-use Rattle.promise.specs.TextClaims.{printedPlan, TextFits, PrintsWhole, PrintedNumbersAreWhole}
+use Rattle.promise.specs.TextClaims.{fileAnswer, printedPlan, TextFits, PrintsWhole, PrintedNumbersAreWhole}
 use Rattle.promise.proofs.Ladder.{same-number, none-holds}
 use Rattle.promise.proofs.Table.{gives-list}
 use Rattle.promise.proofs.Sound.{Passes, planned-numbers, planned-distinct, few-machines, few-rows, answers-fit, yes-passes}
+use Rattle.promise.proofs.Buffer.{span-length}
 use Rattle.promise.proofs.Digits.{decimal-digits, decimal-short}
 use Rattle.promise.proofs.Packing.{plan-small}
-use Rattle.promise.proofs.FileJobs.{jobs-of-file}
+use Rattle.promise.proofs.FileJobs.{file-answer, jobs-of-file}
 use Rattle.promise.proofs.Printing.{long-text, short-text, refused-text, planned-text, printed-rows}
 use Rattle.promise.proofs.FileOrder.{jobs-length, Right, rows-right}
 
@@ -83,10 +84,6 @@ span-all : (y : ℕ → ℕ) → ((t : ℕ) → 1 ≤ t → y t ≤ 64) → (t n
 span-all y h t zero l = tt
 span-all y h t (suc n) l = (omega (arith, h t l), span-all y h (suc t) n (omega arith))
 
-span-size : (y : ℕ → ℕ) (t n : ℕ) → length (span t n y) ≡ n
-span-size y t zero = refl
-span-size y t (suc n) = ap suc (span-size y (suc t) n)
-
 -- the lines of jobs whose machines are at most 64 in each slot
 abbrev Slim : ℕ → List Job → ℕ → Type 0
 Slim machines among n = (t : ℕ) → 1 ≤ t → plan machines among n t ≤ 64
@@ -101,7 +98,7 @@ lines-size machines among (j ∷ jobs) h =
       arith,
       seven (j .number),
       lines-size machines among jobs (h .1),
-      run-size row (omega (arith, span-size (plan machines among (j .number)) 1 168)) (span-all (plan machines among (j .number)) (h .0) 1 168 (omega arith)),
+      run-size row (omega (arith, span-length (plan machines among (j .number)) 1 168)) (span-all (plan machines among (j .number)) (h .0) 1 168 (omega arith)),
       length-append (decimal (j .number)) (10 ∷ ended (runLine row ∷ linesByNumber machines among jobs)),
       line-size (runLine row) (linesByNumber machines among jobs),
     )
@@ -177,15 +174,18 @@ bad-line-whole bytes ℓ l b =
 prints-whole : (f : File) → PrintsWhole f
 unfolding rowsAnswer
 prints-whole f = record {
-  refusal-whole = let s = plan-small (f .machines) rows (168 * rowCount rows) in (omega (arith, s .number), omega (arith, s .place), omega (arith, s .amount));
-  count-whole = λ z. few-machines (f .machines) rows (passes (f .machines) rows z);
+  refusal-whole = let s = plan-small (f .machines) rows (168 * length (f .groups)) in (omega (arith, s .number), omega (arith, s .place), omega (arith, s .amount));
+  count-whole = λ z. few-machines (f .machines) rows (passes (f .machines) rows (answered z));
   jobs-whole = λ z.
       subst (λ (js : List Job). All (λ j. (j .number ≤ 65535) × Slim (f .machines) (counted (f .machines) js) (j .number)) js) (jobs-of-file (f .groups))
-      (jobs-small (f .machines) rows z);
+      (jobs-small (f .machines) rows (answered z));
 }
   where
     rows : List ℕ
     rows = numbersOf (f .groups)
+
+    answered : (fileAnswer f) .number ≡ 0 → (rowsAnswer (f .machines) rows) .number ≡ 0
+    answered z = sym (same-number (file-answer f)) ∙ z
 
 pub printed-numbers-are-whole : PrintedNumbersAreWhole
 printed-numbers-are-whole = (bad-line-whole, prints-whole)

@@ -1,14 +1,14 @@
 -- 01, "Calls": the desk's record, what a sound one is, and the jobs on it as they count for planning.
-use Prim.Native.Nat.{ℕ, zero, suc, _+_, _*_, _-_, _/_, _≤_, _<_}
+use Prim.Native.Nat.{ℕ, _*_, _-_, _/_, _≤_}
 use mathlib.Core.Path.{_≡_}
-use mathlib.Core.Bool.{Bool, true, cond, _&&_}
+use mathlib.Core.Bool.{cond}
 use mathlib.Core.List.{List, [], _∷_, _++_, map}
-use mathlib.Core.Option.{Option, some, none}
-use lib.Dec.{leb, ltb, eqb}
+use mathlib.Core.Option.{some}
+use lib.Dec.{eqb}
 use lib.ListN.{length, replicate}
 use Rattle.model.specs.Lists.{All, Rising}
 use Rattle.model.specs.Jobs.{Job, runLength, width, counted}
-use Rattle.model.specs.Boundaries.{RoomEverywhere, leastShort}
+use Rattle.model.specs.Boundaries.{RoomEverywhere}
 use Rattle.model.specs.Rule.{plan}
 use Rattle.promise.specs.declared.Held.{Held}
 use Rattle.promise.specs.declared.Desk.{Desk}

@@ -4,16 +4,14 @@ use mathlib.Core.Path.{_≡_}
 use mathlib.Core.Logic.{_≢_, _⊎_, _↔_}
 use mathlib.Core.Bool.{true}
 use mathlib.Core.List.{List, [], _∷_, _++_, map, List·Memᴰ}
-use lib.ListN.{length, getD, replicate}
+use lib.ListN.{length, replicate}
 use Rattle.model.specs.Lists.{All, total}
 use Rattle.model.specs.Jobs.{Job, runLength, width}
 use Rattle.model.specs.Boundaries.{LeastShort}
 use Rattle.model.specs.Schedules.{Possible}
 use Rattle.model.specs.Rule.{plan}
-use Rattle.promise.specs.declared.Answer.{Answer}
 use Rattle.promise.specs.declared.Held.{Held}
 use Rattle.promise.specs.declared.Desk.{Desk}
-use Rattle.promise.specs.declared.Given.{Given}
 use Rattle.promise.specs.declared.Desked.{Desked}
 use Rattle.promise.specs.declared.Withdrawn.{Withdrawn}
 use Rattle.promise.specs.declared.Looked.{Looked}
@@ -22,8 +20,8 @@ use Rattle.promise.specs.Answers.{yes, refusal}
 use Rattle.promise.specs.Order.{GivenBy}
 use Rattle.promise.specs.Rows.{Field}
 use Rattle.promise.specs.Desk.{heldOf, deskOf, asPlanned, toPlan, jobsFor, Sound}
-use Rattle.promise.specs.DeskCalls.{isSound, openOf, withNew, admitAnswer, admitOf, findAnswer, withdrawOf, lookOf, runAnswer, runOf, DeskTest, not-sound, asked, held-already, full, DeskHolds, deskAnswerOf, admitOrder, findOrder, runOrder}
-use Rattle.promise.specs.History.{Call, Event, answerOf, historyOf, deskAfter, roomOpened, Promised, Ledger, Owed, answeredFor, ledgerAfter, toFinish}
+use Rattle.promise.specs.DeskCalls.{isSound, openOf, withNew, admitAnswer, admitOf, findAnswer, withdrawOf, lookOf, runAnswer, runOf, asked, held-already, full, DeskHolds, deskAnswerOf, admitOrder, findOrder, runOrder}
+use Rattle.promise.specs.History.{Call, answerOf, historyOf, deskAfter, roomOpened, Promised, Owed, answeredFor, ledgerAfter, toFinish}
 
 -- a record has 32 seats
 abbrev pub Seated : Desk → Type 0

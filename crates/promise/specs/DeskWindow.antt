@@ -44,8 +44,8 @@ abbrev pub seatsFrom : List ℕ → ℕ → ℕ → List Held
 seatsFrom bytes i zero = []
 seatsFrom bytes i (suc n) = seatAt bytes i ∷ seatsFrom bytes (suc i) n
 
-unfoldable pub deskFrom : List ℕ → Desk
-deskFrom bytes = record { machines = wordAt bytes 0; clock = wordAt bytes 1; seats = seatsFrom bytes 0 32 }
+unfoldable pub deskRead : List ℕ → Desk
+deskRead bytes = record { machines = wordAt bytes 0; clock = wordAt bytes 1; seats = seatsFrom bytes 0 32 }
 
 -- a record of any other length is a 12
 unfoldable pub recordFault : List ℕ → Answer
@@ -53,7 +53,7 @@ recordFault bytes = fault (not (eqb (length bytes) 776)) (refusal 12 0 0)
 
 -- what Look and Run test before their own rows: 12, then 6 for an output buffer of so many bytes, fewer than are written
 unfoldable pub outputFault : List ℕ → ℕ → ℕ → Answer
-outputFault bytes lent written = first (first (recordFault bytes) (soundFault (deskFrom bytes))) (fault (ltb lent written) (refusal 6 0 0))
+outputFault bytes lent written = first (first (recordFault bytes) (soundFault (deskRead bytes))) (fault (ltb lent written) (refusal 6 0 0))
 
 -- on a yes the record is the desk that the call returns, in a refusal the bytes as lent
 abbrev pub recordLeft : Answer → Desk → List ℕ → List ℕ
@@ -76,10 +76,10 @@ pub record OpenBytesPromise (machines : ℕ) (bytes : List ℕ) (word : ℕ) (af
 
 -- Admit
 unfoldable pub admitBytesAnswer : List ℕ → Job → Answer
-admitBytesAnswer bytes j = first (recordFault bytes) ((admitOf (deskFrom bytes) j) .answer)
+admitBytesAnswer bytes j = first (recordFault bytes) ((admitOf (deskRead bytes) j) .answer)
 
 unfoldable pub recordAdmitted : List ℕ → Job → List ℕ
-recordAdmitted bytes j = recordLeft (admitBytesAnswer bytes j) ((admitOf (deskFrom bytes) j) .desk) bytes
+recordAdmitted bytes j = recordLeft (admitBytesAnswer bytes j) ((admitOf (deskRead bytes) j) .desk) bytes
 
 pub record AdmitBytesPromise (bytes : List ℕ) (j : Job) (word : ℕ) (after : List ℕ) : Type 0 where
   pub answered : word ≡ pack (admitBytesAnswer bytes j)
@@ -87,16 +87,16 @@ pub record AdmitBytesPromise (bytes : List ℕ) (j : Job) (word : ℕ) (after : 
 
 -- Withdraw: a refusal packed, or the remaining work in the upper half
 unfoldable pub withdrawBytesAnswer : List ℕ → ℕ → Answer
-withdrawBytesAnswer bytes n = first (recordFault bytes) ((withdrawOf (deskFrom bytes) n) .answer)
+withdrawBytesAnswer bytes n = first (recordFault bytes) ((withdrawOf (deskRead bytes) n) .answer)
 
 unfoldable pub withdrawPacked : List ℕ → ℕ → ℕ
 withdrawPacked bytes n =
     cond (eqb ((withdrawBytesAnswer bytes n) .number) 0)
-    (4294967296 * (withdrawOf (deskFrom bytes) n) .left)
+    (4294967296 * (withdrawOf (deskRead bytes) n) .left)
     (pack (withdrawBytesAnswer bytes n))
 
 unfoldable pub recordWithdrawn : List ℕ → ℕ → List ℕ
-recordWithdrawn bytes n = recordLeft (withdrawBytesAnswer bytes n) ((withdrawOf (deskFrom bytes) n) .desk) bytes
+recordWithdrawn bytes n = recordLeft (withdrawBytesAnswer bytes n) ((withdrawOf (deskRead bytes) n) .desk) bytes
 
 pub record WithdrawBytesPromise (bytes : List ℕ) (n word : ℕ) (after : List ℕ) : Type 0 where
   pub answered : word ≡ withdrawPacked bytes n
@@ -107,10 +107,10 @@ abbrev pub lookNumbers : Looked → List ℕ
 lookNumbers told = told .left ∷ told .deadline ∷ told .bound ∷ told .leeway ∷ []
 
 unfoldable pub lookBytesAnswer : List ℕ → ℕ → List ℕ → Answer
-lookBytesAnswer bytes n figures = first (outputFault bytes (length figures) 16) ((lookOf (deskFrom bytes) n) .answer)
+lookBytesAnswer bytes n figures = first (outputFault bytes (length figures) 16) ((lookOf (deskRead bytes) n) .answer)
 
 unfoldable pub figuresTold : List ℕ → ℕ → List ℕ → List ℕ
-figuresTold bytes n figures = outputLeft (lookBytesAnswer bytes n figures) (lookNumbers (lookOf (deskFrom bytes) n)) figures
+figuresTold bytes n figures = outputLeft (lookBytesAnswer bytes n figures) (lookNumbers (lookOf (deskRead bytes) n)) figures
 
 pub record LookBytesPromise (bytes : List ℕ) (n : ℕ) (figures : List ℕ) (word : ℕ) (bytesAfter after : List ℕ) : Type 0 where
   pub answered : word ≡ pack (lookBytesAnswer bytes n figures)
@@ -122,13 +122,13 @@ abbrev pub pairNumbers : Given → List ℕ
 pairNumbers g = g .number ∷ g .machines ∷ []
 
 unfoldable pub runBytesAnswer : List ℕ → List ℕ → Answer
-runBytesAnswer bytes given = first (outputFault bytes (length given) 256) ((runOf (deskFrom bytes)) .answer)
+runBytesAnswer bytes given = first (outputFault bytes (length given) 256) ((runOf (deskRead bytes)) .answer)
 
 unfoldable pub recordRun : List ℕ → List ℕ → List ℕ
-recordRun bytes given = recordLeft (runBytesAnswer bytes given) ((runOf (deskFrom bytes)) .desk) bytes
+recordRun bytes given = recordLeft (runBytesAnswer bytes given) ((runOf (deskRead bytes)) .desk) bytes
 
 unfoldable pub pairsTold : List ℕ → List ℕ → List ℕ
-pairsTold bytes given = outputLeft (runBytesAnswer bytes given) (flatten (map pairNumbers ((runOf (deskFrom bytes)) .given))) given
+pairsTold bytes given = outputLeft (runBytesAnswer bytes given) (flatten (map pairNumbers ((runOf (deskRead bytes)) .given))) given
 
 pub record RunBytesPromise (bytes given : List ℕ) (word : ℕ) (bytesAfter after : List ℕ) : Type 0 where
   pub answered : word ≡ pack (runBytesAnswer bytes given)

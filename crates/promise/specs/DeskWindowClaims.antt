@@ -14,19 +14,19 @@ use Rattle.promise.specs.DeskCalls.{openOf, admitOf, withdrawOf, lookOf,
 use Rattle.promise.specs.History.{Call, deskAfter}
 use Rattle.promise.specs.DeskClaims.{Seated}
 use Rattle.promise.specs.Window.{wordAt, pack, Packs}
-use Rattle.promise.specs.DeskWindow.{deskNumbers, deskBytes, deskFrom, openBytesAnswer, recordOpened, OpenBytesPromise, admitBytesAnswer, recordAdmitted, AdmitBytesPromise, withdrawBytesAnswer, withdrawPacked, recordWithdrawn, WithdrawBytesPromise, lookBytesAnswer, figuresTold, LookBytesPromise, runBytesAnswer, recordRun, pairsTold, RunBytesPromise, recordAfter}
+use Rattle.promise.specs.DeskWindow.{deskNumbers, deskBytes, deskRead, openBytesAnswer, recordOpened, OpenBytesPromise, admitBytesAnswer, recordAdmitted, AdmitBytesPromise, withdrawBytesAnswer, withdrawPacked, recordWithdrawn, WithdrawBytesPromise, lookBytesAnswer, figuresTold, LookBytesPromise, runBytesAnswer, recordRun, pairsTold, RunBytesPromise, recordAfter}
 
 -- a record of 32-bit numbers is 776 bytes, and is read as it was written
 abbrev pub RecordsAreReadBack : Type 0
 RecordsAreReadBack =
     (desk : Desk) → Seated desk
-    → (deskFrom (deskBytes desk) ≡ desk) × (length (deskBytes desk) ≡ 776)
+    → (deskRead (deskBytes desk) ≡ desk) × (length (deskBytes desk) ≡ 776)
     × (All (λ n. n < 4294967296) (deskNumbers desk) → All (λ b. b < 256) (deskBytes desk))
 
 -- any 776 bytes are a record of 32 seats, and are written as they were read
 abbrev pub RecordsAreWrittenBack : Type 0
 RecordsAreWrittenBack =
-    (bytes : List ℕ) → length bytes ≡ 776 → All (λ b. b < 256) bytes → (deskBytes (deskFrom bytes) ≡ bytes) × Seated (deskFrom bytes)
+    (bytes : List ℕ) → length bytes ≡ 776 → All (λ b. b < 256) bytes → (deskBytes (deskRead bytes) ≡ bytes) × Seated (deskRead bytes)
 
 -- Open: 1, then 6 for any other length, else yes
 pub record OpenedInOrder (machines : ℕ) (bytes : List ℕ) : Type 0 where
@@ -43,23 +43,23 @@ pub record TwelveFirst (bytes : List ℕ) (j : Job) (n : ℕ) (lent : List ℕ) 
 
 -- then, on a sound record: 6 for a short output buffer, and after it the rows of the call
 pub record AnsweredInOrder (bytes : List ℕ) (j : Job) (n : ℕ) (lent : List ℕ) : Type 0 where
-  pub admit : admitBytesAnswer bytes j ≡ admitAnswer (deskFrom bytes) j
-  pub withdraw-ten : ¬ HeldAs (deskFrom bytes) n → withdrawBytesAnswer bytes n ≡ refusal 10 0 0
-  pub withdraw : HeldAs (deskFrom bytes) n → withdrawBytesAnswer bytes n ≡ yes
+  pub admit : admitBytesAnswer bytes j ≡ admitAnswer (deskRead bytes) j
+  pub withdraw-ten : ¬ HeldAs (deskRead bytes) n → withdrawBytesAnswer bytes n ≡ refusal 10 0 0
+  pub withdraw : HeldAs (deskRead bytes) n → withdrawBytesAnswer bytes n ≡ yes
   pub look-six : length lent < 16 → lookBytesAnswer bytes n lent ≡ refusal 6 0 0
-  pub look-ten : 16 ≤ length lent → ¬ HeldAs (deskFrom bytes) n → lookBytesAnswer bytes n lent ≡ refusal 10 0 0
-  pub look : 16 ≤ length lent → HeldAs (deskFrom bytes) n → lookBytesAnswer bytes n lent ≡ yes
+  pub look-ten : 16 ≤ length lent → ¬ HeldAs (deskRead bytes) n → lookBytesAnswer bytes n lent ≡ refusal 10 0 0
+  pub look : 16 ≤ length lent → HeldAs (deskRead bytes) n → lookBytesAnswer bytes n lent ≡ yes
   pub run-six : length lent < 256 → runBytesAnswer bytes lent ≡ refusal 6 0 0
-  pub run-eleven : 256 ≤ length lent → (deskFrom bytes) .clock ≡ 100000 → runBytesAnswer bytes lent ≡ refusal 11 0 0
-  pub run : 256 ≤ length lent → (deskFrom bytes) .clock ≢ 100000 → runBytesAnswer bytes lent ≡ yes
+  pub run-eleven : 256 ≤ length lent → (deskRead bytes) .clock ≡ 100000 → runBytesAnswer bytes lent ≡ refusal 11 0 0
+  pub run : 256 ≤ length lent → (deskRead bytes) .clock ≢ 100000 → runBytesAnswer bytes lent ≡ yes
 
 -- the order at the window, for every input; Admit's own rows are those of desk-answers-by-the-table
 abbrev pub DeskWindowAnswersByTheTable : Type 0
 DeskWindowAnswersByTheTable =
     (machines : ℕ) (bytes : List ℕ) (j : Job) (n : ℕ) (lent : List ℕ)
     → OpenedInOrder machines bytes
-    × ((length bytes ≢ 776) ⊎ (¬ Sound (deskFrom bytes)) → TwelveFirst bytes j n lent)
-    × (length bytes ≡ 776 → Sound (deskFrom bytes) → AnsweredInOrder bytes j n lent)
+    × ((length bytes ≢ 776) ⊎ (¬ Sound (deskRead bytes)) → TwelveFirst bytes j n lent)
+    × (length bytes ≡ 776 → Sound (deskRead bytes) → AnsweredInOrder bytes j n lent)
 
 -- a refusal leaves every lent byte, and no call changes a length
 pub record LeftAsLent (machines : ℕ) (bytes : List ℕ) (j : Job) (n : ℕ) (lent : List ℕ) : Type 0 where
@@ -82,18 +82,18 @@ DeskWindowRefusalLeavesTheBytes =
 
 -- the record that a call leaves is read as the desk that it returns, whatever it answers: so the next call has that desk
 pub record DeskHandedOn (bytes : List ℕ) : Type 0 where
-  pub admit : (j : Job) → deskFrom (recordAdmitted bytes j) ≡ (admitOf (deskFrom bytes) j) .desk
-  pub withdraw : (n : ℕ) → deskFrom (recordWithdrawn bytes n) ≡ (withdrawOf (deskFrom bytes) n) .desk
-  pub run : (lent : List ℕ) → 256 ≤ length lent → deskFrom (recordRun bytes lent) ≡ (runOf (deskFrom bytes)) .desk
+  pub admit : (j : Job) → deskRead (recordAdmitted bytes j) ≡ (admitOf (deskRead bytes) j) .desk
+  pub withdraw : (n : ℕ) → deskRead (recordWithdrawn bytes n) ≡ (withdrawOf (deskRead bytes) n) .desk
+  pub run : (lent : List ℕ) → 256 ≤ length lent → deskRead (recordRun bytes lent) ≡ (runOf (deskRead bytes)) .desk
 
 abbrev pub DeskWindowHandsTheDeskOn : Type 0
 DeskWindowHandsTheDeskOn =
     (bytes : List ℕ) → length bytes ≡ 776
-    → ((machines : ℕ) → 1 ≤ machines → machines ≤ 64 → deskFrom (recordOpened machines bytes) ≡ (openOf machines) .desk) × DeskHandedOn bytes
+    → ((machines : ℕ) → 1 ≤ machines → machines ≤ 64 → deskRead (recordOpened machines bytes) ≡ (openOf machines) .desk) × DeskHandedOn bytes
 
 -- so a history through the window is one of the desk: the record after it is the desk of demand 3, and the next call is answered as there
 pub record GoesOn (bytes : List ℕ) (desk : Desk) : Type 0 where
-  pub held : deskFrom bytes ≡ desk
+  pub held : deskRead bytes ≡ desk
   pub admit : (j : Job) → admitBytesAnswer bytes j ≡ (admitOf desk j) .answer
   pub withdraw : (n : ℕ) → withdrawBytesAnswer bytes n ≡ (withdrawOf desk n) .answer
   pub look : (n : ℕ) (lent : List ℕ) → 16 ≤ length lent → lookBytesAnswer bytes n lent ≡ (lookOf desk n) .answer
@@ -106,15 +106,15 @@ HistoryGoesThroughTheWindow =
 
 -- on a yes the figures and the pairs stand in their places, lowest byte first, and what was lent after them
 pub record FiguresInPlace (bytes : List ℕ) (n : ℕ) (lent : List ℕ) : Type 0 where
-  pub left : wordAt (figuresTold bytes n lent) 0 ≡ (lookOf (deskFrom bytes) n) .left
-  pub deadline : wordAt (figuresTold bytes n lent) 1 ≡ (lookOf (deskFrom bytes) n) .deadline
-  pub bound : wordAt (figuresTold bytes n lent) 2 ≡ (lookOf (deskFrom bytes) n) .bound
-  pub leeway : wordAt (figuresTold bytes n lent) 3 ≡ (lookOf (deskFrom bytes) n) .leeway
+  pub left : wordAt (figuresTold bytes n lent) 0 ≡ (lookOf (deskRead bytes) n) .left
+  pub deadline : wordAt (figuresTold bytes n lent) 1 ≡ (lookOf (deskRead bytes) n) .deadline
+  pub bound : wordAt (figuresTold bytes n lent) 2 ≡ (lookOf (deskRead bytes) n) .bound
+  pub leeway : wordAt (figuresTold bytes n lent) 3 ≡ (lookOf (deskRead bytes) n) .leeway
   pub beyond : (k : ℕ) → 16 ≤ k → getD (figuresTold bytes n lent) k 0 ≡ getD lent k 0
 
 pub record PairsInPlace (bytes lent : List ℕ) : Type 0 where
-  pub number : (i : ℕ) (none : Given) → i < 32 → wordAt (pairsTold bytes lent) (2 * i) ≡ (getD ((runOf (deskFrom bytes)) .given) i none) .number
-  pub machines : (i : ℕ) (none : Given) → i < 32 → wordAt (pairsTold bytes lent) (2 * i + 1) ≡ (getD ((runOf (deskFrom bytes)) .given) i none) .machines
+  pub number : (i : ℕ) (none : Given) → i < 32 → wordAt (pairsTold bytes lent) (2 * i) ≡ (getD ((runOf (deskRead bytes)) .given) i none) .number
+  pub machines : (i : ℕ) (none : Given) → i < 32 → wordAt (pairsTold bytes lent) (2 * i + 1) ≡ (getD ((runOf (deskRead bytes)) .given) i none) .machines
   pub beyond : (k : ℕ) → 256 ≤ k → getD (pairsTold bytes lent) k 0 ≡ getD lent k 0
 
 abbrev pub DeskWindowTellsInPlace : Type 0
@@ -131,7 +131,7 @@ pub record DeskAnswersPack (machines : ℕ) (bytes : List ℕ) (j : Job) (n : �
   pub run : Packs (runBytesAnswer bytes lent)
   pub withdrawn : (withdrawBytesAnswer bytes n) .number ≡ 0
       → (withdrawPacked bytes n < 18446744073709551616) × (withdrawPacked bytes n % 4294967296 ≡ 0)
-      × (withdrawPacked bytes n / 4294967296 ≡ (withdrawOf (deskFrom bytes) n) .left)
+      × (withdrawPacked bytes n / 4294967296 ≡ (withdrawOf (deskRead bytes) n) .left)
   pub refused : (withdrawBytesAnswer bytes n) .number ≢ 0 → withdrawPacked bytes n ≡ pack (withdrawBytesAnswer bytes n)
 
 abbrev pub DeskWindowPacks : Type 0

@@ -1,11 +1,10 @@
 -- Demand 3: any sequence of calls from Open, and what one who saw only the calls and their answers would write down.
-use Prim.Native.Nat.{ℕ, _+_, _-_, _≤_, _<_}
+use Prim.Native.Nat.{ℕ, _+_, _-_, _<_}
 use mathlib.Core.Path.{_≡_}
-use mathlib.Core.Logic.{_≢_}
 use mathlib.Core.Bool.{cond}
 use mathlib.Core.List.{List, [], _∷_, map, List·Memᴰ}
 use lib.Dec.{ltb, eqb}
-use Rattle.model.specs.Lists.{All, total}
+use Rattle.model.specs.Lists.{total}
 use Rattle.model.specs.Jobs.{Job}
 use Rattle.promise.specs.declared.Answer.{Answer}
 use Rattle.promise.specs.declared.Desk.{Desk}

@@ -14,11 +14,11 @@ use Rattle.promise.specs.Rows.{rowCount}
 use Rattle.promise.specs.Lists.{planAnswer, planBuffer, roomAnswer, roomFigure}
 use Rattle.promise.specs.Desk.{deskOf}
 use Rattle.promise.specs.DeskCalls.{openOf, admitOf, withdrawOf, lookOf, runOf, pairs}
-use Rattle.promise.specs.History.{Call, admit, withdraw, look, run, returned, deskFrom}
+use Rattle.promise.specs.History.{Call, admit, withdraw, look, run, returned, deskAfter}
 use Rattle.promise.specs.Texts.{ascii, padded}
 use Rattle.promise.specs.PlanText.{planText}
 
--- the kinds: a job file, a list to plan, the room of a list at some boundaries, calls on a desk of so many machines
+-- the kinds: a job file, a list to plan, the room of a list at some boundaries, Open of so many machines and calls after it
 pub data Case : Type 0 where
   file : List ℕ → Case
   list : ℕ → List ℕ → Case
@@ -37,22 +37,25 @@ pub data Outcome : Type 0 where
   has : List (Answer × ℤ) → Outcome
   tells : List Told → Desk → Outcome
 
+abbrev pub answered : Answer → List ℕ → Told
+answered answer figures = record { answer = answer; figures = figures }
+
 abbrev pub numbersGiven : List Given → List ℕ
 numbersGiven [] = []
 numbersGiven (g ∷ given) = g .number ∷ g .machines ∷ numbersGiven given
 
-abbrev pub toldBy : Desk → Call → Told
-toldBy d (admit j) = record { answer = (admitOf d j) .answer; figures = [] }
-toldBy d (withdraw n) = record { answer = (withdrawOf d n) .answer; figures = (withdrawOf d n) .left ∷ [] }
-toldBy d (look n) = record {
+abbrev pub callTells : Desk → Call → Told
+callTells d (admit j) = record { answer = (admitOf d j) .answer; figures = [] }
+callTells d (withdraw n) = record { answer = (withdrawOf d n) .answer; figures = (withdrawOf d n) .left ∷ [] }
+callTells d (look n) = record {
   answer = (lookOf d n) .answer;
   figures = (lookOf d n) .left ∷ (lookOf d n) .deadline ∷ (lookOf d n) .bound ∷ (lookOf d n) .leeway ∷ [];
 }
-toldBy d run = record { answer = (runOf d) .answer; figures = numbersGiven ((runOf d) .given) }
+callTells d run = record { answer = (runOf d) .answer; figures = numbersGiven ((runOf d) .given) }
 
-abbrev pub toldFrom : Desk → List Call → List Told
-toldFrom d [] = []
-toldFrom d (call ∷ calls) = toldBy d call ∷ toldFrom (returned d call) calls
+abbrev pub callsTell : Desk → List Call → List Told
+callsTell d [] = []
+callsTell d (call ∷ calls) = callTells d call ∷ callsTell (returned d call) calls
 
 -- a buffer just long enough, full of nines
 abbrev pub lent : ℕ → List ℕ
@@ -62,7 +65,7 @@ abbrev pub computed : Case → Outcome
 computed (file bytes) = prints (planText bytes)
 computed (list machines rows) = plans (planAnswer machines rows (length (lent (rowCount rows)))) (planBuffer machines rows (lent (rowCount rows)))
 computed (rooms machines rows at) = has (map (λ b. (roomAnswer machines rows b, roomFigure machines rows b)) at)
-computed (desk machines calls) = tells (toldFrom ((openOf machines) .desk) calls) (deskFrom ((openOf machines) .desk) calls)
+computed (desk machines calls) = tells (answered ((openOf machines) .answer) [] ∷ callsTell ((openOf machines) .desk) calls) (deskAfter machines calls)
 
 -- how 01 states them: a plan, the zeros at the end of its rows left out; a 7 with n rows as lent; rooms
 abbrev pub row : ℕ → ℕ → ℕ → ℕ → List ℕ
@@ -80,12 +83,9 @@ roomsOf zs = has (map (λ z. (yes, z)) zs)
 abbrev pub job : ℕ → ℕ → ℕ → ℕ → Job
 job number work deadline bound = record { number = number; work = work; deadline = deadline; bound = bound }
 
-abbrev pub told : Answer → List ℕ → Told
-told answer figures = record { answer = answer; figures = figures }
-
 -- Run's 32 pairs, of which these are not zero
 abbrev pub gave : List ℕ → Told
-gave given = told yes (padded 64 given)
+gave given = answered yes (padded 64 given)
 
 pub record Starred : Type 0 where
   pub case : Case
@@ -109,8 +109,12 @@ starred =
     -- P2
     ∷ record { case = list 2 (row 1 4 2 2 ++ row 2 1 3 1); stated = planOf ((2 ∷ 2 ∷ []) ∷ (0 ∷ 0 ∷ 1 ∷ []) ∷ []) }
     ∷ record { case = rooms 2 (row 1 4 2 2 ++ row 2 1 3 1) (2 ∷ []); stated = roomsOf (pos 0 ∷ []) }
-    -- P3
+    -- P3, also as a file
     ∷ record { case = list 2 (row 1 4 2 2 ++ row 2 2 3 1); stated = short 2 2 1 }
+    ∷ record {
+      case = file (ascii "machines=2\njob=1\nwork=4\ndeadline=2\nbound=2\nlabel=\njob=2\nwork=2\ndeadline=3\nbound=1\nlabel=\n");
+      stated = prints (ascii "result=refused\ncode=7\nat=2\namount=1\n");
+    }
     -- P4, with its second shortage
     ∷ record { case = list 2 (row 1 4 2 2 ++ row 2 3 3 1); stated = short 2 2 2 }
     ∷ record { case = rooms 2 (row 1 4 2 2 ++ row 2 3 3 1) (2 ∷ 3 ∷ []); stated = roomsOf (negsuc 1 ∷ negsuc 0 ∷ []) }
@@ -143,13 +147,14 @@ starred =
           ∷ run
           ∷ []);
       stated = tells
-          (told yes []
-          ∷ told (refusal 7 2 1) []
-          ∷ told yes []
-          ∷ told yes (4 ∷ 2 ∷ 2 ∷ 100 ∷ [])
-          ∷ told yes (1 ∷ 3 ∷ 1 ∷ 300 ∷ [])
+          (answered yes []
+          ∷ answered yes []
+          ∷ answered (refusal 7 2 1) []
+          ∷ answered yes []
+          ∷ answered yes (4 ∷ 2 ∷ 2 ∷ 100 ∷ [])
+          ∷ answered yes (1 ∷ 3 ∷ 1 ∷ 300 ∷ [])
           ∷ gave (1 ∷ 2 ∷ 2 ∷ 0 ∷ [])
-          ∷ told yes (2 ∷ 2 ∷ 2 ∷ 100 ∷ [])
+          ∷ answered yes (2 ∷ 2 ∷ 2 ∷ 100 ∷ [])
           ∷ gave (1 ∷ 2 ∷ 2 ∷ 0 ∷ [])
           ∷ gave (2 ∷ 1 ∷ [])
           ∷ [])

@@ -1,11 +1,11 @@
 -- The headline statements about the job file and the printed text, each a proposition with a name. proofs/Theorems.antt has one
 -- theorem for each.
-use Prim.Native.Nat.{ℕ, _≤_, _<_}
+use Prim.Native.Nat.{ℕ, _*_, _≤_, _<_}
 use mathlib.Core.Path.{_≡_}
 use mathlib.Core.Logic.{_≢_, _⊎_, _↔_}
 use mathlib.Core.List.{List, _∷_, map, List·Memᴰ}
 use mathlib.Core.Option.{some, none}
-use lib.ListN.{length}
+use lib.ListN.{length, replicate}
 use Rattle.model.specs.Lists.{All, Perm, Rising, span}
 use Rattle.model.specs.Jobs.{Job, counted}
 use Rattle.model.specs.Rule.{plan}
@@ -15,9 +15,10 @@ use Rattle.promise.specs.declared.Text.{Text}
 use Rattle.promise.specs.declared.LineKind.the-variants.{MachinesLine}
 use Rattle.promise.specs.Answers.{refusal}
 use Rattle.promise.specs.Answers as answers
+use Rattle.promise.specs.Lists.{planAnswer}
 use Rattle.promise.specs.Texts.{ascii, padded, decimal, NumberText, readNumber, ended}
-use Rattle.promise.specs.JobFile.{numberLine, Group, File, fileText, Typed, GoodFile, BadLine, readingOf, notRead, ReadingPromise, numbersOf}
-use Rattle.promise.specs.PlanText.{refusalText, pairText, pairsFrom, rowsAnswer, planText, TextPromise, linesByNumber}
+use Rattle.promise.specs.JobFile.{numberLine, Group, File, fileText, Typed, GoodFile, BadLine, readingOf, ReadingPromise, numbersOf}
+use Rattle.promise.specs.PlanText.{refusalText, pairText, pairsFrom, planText, TextPromise, linesByNumber}
 
 -- numbers: what is printed is a number's text and is read back, and what is read is what would be printed
 abbrev pub NumbersAreReadBack : Type 0
@@ -29,6 +30,10 @@ NumbersArePrintedBack =
     → ((n : ℕ) → readNumber bytes ≡ some n → NumberText bytes × (n < 10000000) × (decimal n ≡ bytes))
     × (readNumber bytes ≡ none → ¬ NumberText bytes)
 
+-- a refused reading: "A call's other figures are 0 in a refusal"
+abbrev pub nothing : Answer → Reading
+nothing a = record { answer = a; machines = 0; groups = 0; rows = replicate 128 0 }
+
 -- J: what the reader answers, for every run of bytes
 pub record Read (bytes : List ℕ) : Type 0 where
   pub fourteen : ((readingOf bytes) .answer ≡ refusal 14 0 0) ↔ (4096 < length bytes)
@@ -38,7 +43,7 @@ pub record Read (bytes : List ℕ) : Type 0 where
       → readingOf bytes ≡ record { answer = answers.yes; machines = f .machines; groups = length (f .groups); rows = padded 128 (numbersOf (f .groups)) }
   pub thirteen : length bytes ≤ 4096 → (ℓ : ℕ) → ((readingOf bytes) .answer ≡ refusal 13 ℓ 0) ↔ BadLine bytes ℓ
   -- there is no other answer, and a refusal has no figures
-  pub one-of-these : ((readingOf bytes) .answer ≡ answers.yes) ⊎ ((ℓ : ℕ) × (readingOf bytes ≡ notRead (refusal 13 ℓ 0))) ⊎ (readingOf bytes ≡ notRead (refusal 14 0 0))
+  pub one-of-these : ((readingOf bytes) .answer ≡ answers.yes) ⊎ ((ℓ : ℕ) × (readingOf bytes ≡ nothing (refusal 13 ℓ 0))) ⊎ (readingOf bytes ≡ nothing (refusal 14 0 0))
 
 abbrev pub FileIsRead : Type 0
 FileIsRead = (bytes : List ℕ) → Read bytes
@@ -51,15 +56,15 @@ FilesHaveTheirOwnText = (f g : File) → Typed f → Typed g → fileText f ≡ 
 abbrev pub fileJobs : File → List Job
 fileJobs f = map (λ (g : Group). g .job) (f .groups)
 
--- the answer of Plan for the rows of a file
+-- the answer of Plan for the rows of a file, with a buffer that is just long enough
 abbrev pub fileAnswer : File → Answer
-fileAnswer f = rowsAnswer (f .machines) (numbersOf (f .groups))
+fileAnswer f = planAnswer (f .machines) (numbersOf (f .groups)) (168 * length (f .groups))
 
 -- the printed plan of some jobs, with the run lines that the numbers have among these jobs
 abbrev pub printedPlan : ℕ → List Job → List Job → List ℕ
 printedPlan machines among jobs = ended (numberLine MachinesLine machines ∷ ascii "result=plan" ∷ linesByNumber machines (counted machines among) jobs)
 
--- T: the printed text, every byte, for every run of bytes; by J just one of the three holds
+-- T: the printed text, every byte, for every run of bytes: too long, a bad line, or a file, which is refused or planned
 pub record Printed (bytes : List ℕ) : Type 0 where
   pub too-long : 4096 < length bytes → planText bytes ≡ refusalText (refusal 14 0 0)
   pub bad-line : length bytes ≤ 4096 → (ℓ : ℕ) → BadLine bytes ℓ → planText bytes ≡ refusalText (refusal 13 ℓ 0)

@@ -14,7 +14,7 @@ use Rattle.figures.proofs.Tables.{drop-none}
 use Rattle.promise.specs.declared.Held.{Held}
 use Rattle.promise.specs.declared.Desk.{Desk}
 use Rattle.promise.specs.Window.{wordAt, sent}
-use Rattle.promise.specs.DeskWindow.{seatNumbers, deskNumbers, deskBytes, seatAt, seatsFrom, deskFrom}
+use Rattle.promise.specs.DeskWindow.{seatNumbers, deskNumbers, deskBytes, seatAt, seatsFrom, deskRead}
 use Rattle.promise.proofs.Words.{sent-length}
 use Rattle.promise.proofs.DeskRecord.{each-length}
 use Rattle.record.specs.Bytes.{wordSet, wordsSet, sentOver}
@@ -135,8 +135,8 @@ read-step bytes i seats h l e eh r =
     ∙ ap₂ _∷_ (getD-set-same seats i h h (omega arith) ∙ eh) (drop-set-lt (suc i) seats i h (omega arith) ∙ r))
 
 pub read-end : (bytes : List ℕ) (desk : Desk) (i : ℕ) → i ≡ 0 → desk .machines ≡ wordAt bytes 0 → desk .clock ≡ wordAt bytes 1
-    → drop i (desk .seats) ≡ seatsFrom bytes i (32 - i) → desk ≡ deskFrom bytes
-unfolding deskFrom
+    → drop i (desk .seats) ≡ seatsFrom bytes i (32 - i) → desk ≡ deskRead bytes
+unfolding deskRead
 read-end bytes desk i z m c r =
     let all : desk .seats ≡ seatsFrom bytes 0 32 = sym (drop-none (desk .seats) 0 refl) ∙ (rw z at r) in
     λ t. record { machines = m t; clock = c t; seats = all t }

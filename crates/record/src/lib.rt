@@ -9,7 +9,7 @@ ghost use mathlib.Core.List.{map, flatten};
 ghost use Prim.Native.Nat.{_+_, _*_, _≤_, _<_};
 ghost use lib.ListN.{length};
 ghost use Rattle.promise.specs.Window.{wordAt};
-ghost use Rattle.promise.specs.DeskWindow.{seatNumbers, deskBytes, seatAt, deskFrom, recordLeft, outputLeft, lookNumbers, pairNumbers};
+ghost use Rattle.promise.specs.DeskWindow.{seatNumbers, deskBytes, seatAt, deskRead, recordLeft, outputLeft, lookNumbers, pairNumbers};
 ghost use Rattle.record.specs.Bytes.{fourOf, wordSet, wordsSet, sentOver};
 
 // The number of four bytes, lowest first.
@@ -46,7 +46,7 @@ pub fn seat_at(bytes: &[u8], i: usize) -> Held
 // The desk of a record, sound or not.
 pub fn read_desk(bytes: &[u8]) -> Desk
     requires { ⌜ length (now bytes) ≡ 776 ⌝ }
-    ensures { λ r. ⌜ r ≡ deskFrom (now (bytes .entry)) ⌝ }
+    ensures { λ r. ⌜ r ≡ deskRead (now (bytes .entry)) ⌝ }
 {
     let free = seats::free_seat();
     let mut desk = Desk {

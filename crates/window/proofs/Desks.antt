@@ -18,7 +18,7 @@ use Rattle.promise.specs.declared.Ran.{Ran}
 use Rattle.promise.specs.Answers.{yes, refusal, fault, first}
 use Rattle.promise.specs.DeskCalls.{isSound, soundFault, openOf, admitOf, withdrawOf, lookOf, runOf}
 use Rattle.promise.specs.Window.{pack, Packs}
-use Rattle.promise.specs.DeskWindow.{deskBytes, deskFrom, recordFault, outputFault, recordLeft, outputLeft, openBytesAnswer, recordOpened, OpenBytesPromise, admitBytesAnswer, recordAdmitted, AdmitBytesPromise, withdrawBytesAnswer, withdrawPacked, recordWithdrawn, WithdrawBytesPromise, lookNumbers, lookBytesAnswer, figuresTold, LookBytesPromise, pairNumbers, runBytesAnswer, recordRun, pairsTold, RunBytesPromise}
+use Rattle.promise.specs.DeskWindow.{deskBytes, deskRead, recordFault, outputFault, recordLeft, outputLeft, openBytesAnswer, recordOpened, OpenBytesPromise, admitBytesAnswer, recordAdmitted, AdmitBytesPromise, withdrawBytesAnswer, withdrawPacked, recordWithdrawn, WithdrawBytesPromise, lookNumbers, lookBytesAnswer, figuresTold, LookBytesPromise, pairNumbers, runBytesAnswer, recordRun, pairsTold, RunBytesPromise}
 use Rattle.promise.specs.DeskWindowClaims.{LeftAsLent, DeskAnswersPack}
 use Rattle.promise.proofs.Ladder.{same-number, first-stop, first-past}
 use Rattle.promise.proofs.DeskWindowing.{no-job, a-record}
@@ -99,9 +99,9 @@ module _ (bytes : List ℕ) (h : length bytes ≢ 776) where
       }
 
 -- a record that is read
-module _ (bytes : List ℕ) (l : length bytes ≡ 776) (desk : Desk) (d : desk ≡ deskFrom bytes) where
+module _ (bytes : List ℕ) (l : length bytes ≡ 776) (desk : Desk) (d : desk ≡ deskRead bytes) where
   module _ (j : Job) (admitted : Desked) (e : admitted ≡ admitOf desk j) where
-    admit-read : admitted ≡ admitOf (deskFrom bytes) j
+    admit-read : admitted ≡ admitOf (deskRead bytes) j
     admit-read = e ∙ ap (λ (x : Desk). admitOf x j) d
 
     admit-same : admitted .answer ≡ admitBytesAnswer bytes j
@@ -120,7 +120,7 @@ module _ (bytes : List ℕ) (l : length bytes ≡ 776) (desk : Desk) (d : desk �
     }
 
   module _ (n : ℕ) (withdrawn : Withdrawn) (e : withdrawn ≡ withdrawOf desk n) where
-    withdraw-read : withdrawn ≡ withdrawOf (deskFrom bytes) n
+    withdraw-read : withdrawn ≡ withdrawOf (deskRead bytes) n
     withdraw-read = e ∙ ap (λ (x : Desk). withdrawOf x n) d
 
     withdraw-same : withdrawn .answer ≡ withdrawBytesAnswer bytes n
@@ -154,22 +154,22 @@ module _ (bytes : List ℕ) (lent written : ℕ) where
   unfolding outputFault recordFault
   output-length h = rw (ne-eqb (length bytes) 776 h) refl
 
-  module _ (l : length bytes ≡ 776) (desk : Desk) (d : desk ≡ deskFrom bytes) (twelve : Answer) (e : twelve ≡ soundFault desk) where
-    sound-read : twelve ≡ soundFault (deskFrom bytes)
+  module _ (l : length bytes ≡ 776) (desk : Desk) (d : desk ≡ deskRead bytes) (twelve : Answer) (e : twelve ≡ soundFault desk) where
+    sound-read : twelve ≡ soundFault (deskRead bytes)
     sound-read = e ∙ ap soundFault d
 
-    refused : twelve .number ≢ 0 → soundFault (deskFrom bytes) ≡ refusal 12 0 0
+    refused : twelve .number ≢ 0 → soundFault (deskRead bytes) ≡ refusal 12 0 0
     unfolding soundFault
-    refused h = fault-given (not (isSound (deskFrom bytes))) 12 (λ z. h (same-number sound-read ∙ z))
+    refused h = fault-given (not (isSound (deskRead bytes))) 12 (λ z. h (same-number sound-read ∙ z))
 
     pub output-unsound : twelve .number ≢ 0 → 12 ≡ (outputFault bytes lent written) .number
     unfolding outputFault
     output-unsound h = rw (a-record bytes l, refused h) refl
 
     module _ (z : twelve .number ≡ 0) where
-      clear : soundFault (deskFrom bytes) ≡ yes
+      clear : soundFault (deskRead bytes) ≡ yes
       unfolding soundFault
-      clear = fault-clear (not (isSound (deskFrom bytes))) 12 (omega arith) (sym (same-number sound-read) ∙ z)
+      clear = fault-clear (not (isSound (deskRead bytes))) 12 (omega arith) (sym (same-number sound-read) ∙ z)
 
       pub output-short : lent < written → 6 ≡ (outputFault bytes lent written) .number
       unfolding outputFault
@@ -183,7 +183,7 @@ module _ (bytes : List ℕ) (lent written : ℕ) where
   unfolding outputFault recordFault soundFault
   output-whole =
       first-whole _ _
-      (first-whole _ _ (fault-whole (not (eqb (length bytes) 776)) 12) (fault-whole (not (isSound (deskFrom bytes))) 12))
+      (first-whole _ _ (fault-whole (not (eqb (length bytes) 776)) 12) (fault-whole (not (isSound (deskRead bytes))) 12))
       (fault-whole (ltb lent written) 6)
 
   -- a refusal of theirs is the call's
@@ -206,8 +206,8 @@ module _ (bytes : List ℕ) (n : ℕ) (lent : List ℕ) (early : ℕ) (e : early
     pub look-room : 16 ≤ length lent
     look-room = output-long bytes (length lent) 16 (sym e ∙ z)
 
-    module _ (desk : Desk) (d : desk ≡ deskFrom bytes) (looked : Looked) (r : looked ≡ lookOf desk n) where
-      look-read : looked ≡ lookOf (deskFrom bytes) n
+    module _ (desk : Desk) (d : desk ≡ deskRead bytes) (looked : Looked) (r : looked ≡ lookOf desk n) where
+      look-read : looked ≡ lookOf (deskRead bytes) n
       look-read = r ∙ ap (λ (x : Desk). lookOf x n) d
 
       look-same : looked .answer ≡ lookBytesAnswer bytes n lent
@@ -242,8 +242,8 @@ module _ (bytes lent : List ℕ) (early : ℕ) (e : early ≡ (outputFault bytes
     pub run-room : 256 ≤ length lent
     run-room = output-long bytes (length lent) 256 (sym e ∙ z)
 
-    module _ (desk : Desk) (d : desk ≡ deskFrom bytes) (ran : Ran) (r : ran ≡ runOf desk) where
-      run-read : ran ≡ runOf (deskFrom bytes)
+    module _ (desk : Desk) (d : desk ≡ deskRead bytes) (ran : Ran) (r : ran ≡ runOf desk) where
+      run-read : ran ≡ runOf (deskRead bytes)
       run-read = r ∙ ap runOf d
 
       run-same : ran .answer ≡ runBytesAnswer bytes lent

@@ -13,7 +13,7 @@ use borrow.Author.Tests.{lt-ltb, le-ltb}
 use Rattle.promise.specs.declared.Answer.{Answer}
 use Rattle.promise.specs.Texts.{ascii, digitsFrom, decimal, newline, ended}
 use Rattle.promise.specs.PlanText.{refusalText, pairText, pairsFrom, eachAfterComma, withCommas, runLine}
-use Rattle.writer.specs.Writing.{putAt, Writes, digitAt, slotText, slotsText}
+use Rattle.writer.specs.Writing.{putAt, Writes, digitAt, slotText, slotsText, line}
 
 put-length : (at : ℕ) (text bytes : List ℕ) → length (putAt at text bytes) ≡ length bytes
 put-length at [] bytes = refl
@@ -129,9 +129,6 @@ ones zero n z = refl
 ones (suc k) n z = absurd (omega arith)
 
 -- a refusal line by line
-abbrev pub line : List ℕ → ℕ → List ℕ
-line key n = (key ++ decimal n) ++ (newline ∷ [])
-
 line-first : (l : List ℕ) (ls : List (List ℕ)) → ended (l ∷ ls) ≡ (l ++ (newline ∷ [])) ++ ended ls
 line-first l ls = sym (append-assoc l (newline ∷ []) (ended ls))
 

@@ -5,7 +5,7 @@ use mathlib.Core.Bool.{Bool, cond, _||_}
 use mathlib.Core.List.{List, [], _∷_, _++_}
 use lib.Dec.{ltb}
 use lib.ListN.{length, set}
-use Rattle.promise.specs.Texts.{ascii}
+use Rattle.promise.specs.Texts.{ascii, decimal, newline}
 use Rattle.promise.specs.PlanText.{pairText}
 
 -- a text at an index of some bytes
@@ -17,6 +17,10 @@ putAt at (b ∷ text) bytes = putAt (suc at) text (set bytes at b)
 pub record Writes (text : List ℕ) (at : ℕ) (before : List ℕ) (end : ℕ) (after : List ℕ) : Type 0 where
   pub written : after ≡ putAt at text before
   pub counted : end ≡ at + length text
+
+-- a line of a key and a number
+abbrev pub line : List ℕ → ℕ → List ℕ
+line key n = (key ++ decimal n) ++ (newline ∷ [])
 
 -- the digit of n at a power of ten, if n reaches it
 unfoldable pub digitAt : ℕ → ℕ → List ℕ

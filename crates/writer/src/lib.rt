@@ -8,7 +8,7 @@ ghost use lib.Dec.{ltb};
 ghost use lib.ListN.{length, set};
 ghost use Rattle.promise.specs.Texts.{decimal, newline};
 ghost use Rattle.promise.specs.PlanText.{refusalText, pairText, runLine};
-ghost use Rattle.writer.specs.Writing.{Writes, digitAt, slotText, slotsText};
+ghost use Rattle.writer.specs.Writing.{Writes, line, digitAt, slotText, slotsText};
 
 fn put(out: &mut [u8], at: usize, byte: u8)
     requires { ⌜ at < length (now out) ⌝ }
@@ -60,8 +60,8 @@ pub fn write_number(out: &mut [u8], at: usize, n: u32) -> usize
 
 // A line: its key and a number.
 pub fn write_line(out: &mut [u8], at: usize, key: &[u8], n: u32) -> usize
-    requires { ⌜ at + length ((now key ++ decimal n) ++ (newline ∷ [])) ≤ length (now out) ⌝ }
-    ensures { λ r. ⌜ Writes ((now (key .entry) ++ decimal n) ++ (newline ∷ [])) at (now (out .entry)) r (now (out .exit)) ⌝ }
+    requires { ⌜ at + length (line (now key) n) ≤ length (now out) ⌝ }
+    ensures { λ r. ⌜ Writes (line (now (key .entry)) n) at (now (out .entry)) r (now (out .exit)) ⌝ }
 {
     let named = write(&mut *out, at, key);
     let told = write_number(&mut *out, named, n);

@@ -1,6 +1,7 @@
+use Rattle.writer.specs.Writing.{line}
 use mathlib.Core.List.{_++_}
 use Rattle.promise.specs.Texts.{ascii}
-use Rattle.writer.proofs.Laws.{joined, front-fits, back-fits, line, refusal-lines}
+use Rattle.writer.proofs.Laws.{joined, front-fits, back-fits, refusal-lines}
 use borrow.Author.Needs.{needs}
 use Rattle.writer.proofs.write_refusal.Statement.{statement}
 use Rattle.writer.proofs.write_refusal.Tie as tie
