@@ -147,21 +147,21 @@ pub fn leave_desk(answer: Answer, desk: Desk, out: &mut [u8])
 }
 
 // What Look leaves in its buffer: on a yes the figures.
-pub fn leave_figures(answer: Answer, told: Looked, out: &mut [u8])
+pub fn leave_figures(found: Answer, told: Looked, out: &mut [u8])
     requires { ⌜ 16 ≤ length (now out) ⌝ }
-    ensures { λ _. ⌜ now (out .exit) ≡ outputLeft answer (lookNumbers told) (now (out .entry)) ⌝ }
+    ensures { λ _. ⌜ now (out .exit) ≡ outputLeft found (lookNumbers told) (now (out .entry)) ⌝ }
 {
-    if answer.number == 0 {
+    if found.number == 0 {
         write_figures(told, out);
     }
 }
 
 // What Run leaves in its buffer: on a yes the pairs.
-pub fn leave_pairs(answer: Answer, given: [Given; 32], out: &mut [u8])
+pub fn leave_pairs(went: Answer, given: [Given; 32], out: &mut [u8])
     requires { ⌜ 256 ≤ length (now out) ⌝ }
-    ensures { λ _. ⌜ now (out .exit) ≡ outputLeft answer (flatten (map pairNumbers given)) (now (out .entry)) ⌝ }
+    ensures { λ _. ⌜ now (out .exit) ≡ outputLeft went (flatten (map pairNumbers given)) (now (out .entry)) ⌝ }
 {
-    if answer.number == 0 {
+    if went.number == 0 {
         write_pairs(given, out);
     }
 }

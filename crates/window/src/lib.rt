@@ -190,7 +190,8 @@ pub extern "C" fn vezhdanur_admit(
         deadline,
         bound,
     };
-    let admitted = desk::admit(record::read_desk(&bytes[..]), job);
+    let held = record::read_desk(&bytes[..]);
+    let admitted = desk::admit(held, job);
     let answer = admitted.answer;
     let next = admitted.desk;
     record::leave_desk(answer, next, bytes);
@@ -216,7 +217,8 @@ pub extern "C" fn vezhdanur_withdraw(bytes: &mut [u8], number: u32) -> u64
     if bytes.len() != 776 {
         return 12;
     }
-    let withdrawn = desk::withdraw(record::read_desk(&bytes[..]), number);
+    let held = record::read_desk(&bytes[..]);
+    let withdrawn = desk::withdraw(held, number);
     let answer = withdrawn.answer;
     let next = withdrawn.desk;
     record::leave_desk(answer, next, bytes);
@@ -264,7 +266,8 @@ pub extern "C" fn vezhdanur_run(bytes: &mut [u8], given: &mut [u8]) -> u64
     if fault != 0 {
         return fault as u64;
     }
-    let ran = desk::run(record::read_desk(&bytes[..]));
+    let held = record::read_desk(&bytes[..]);
+    let ran = desk::run(held);
     let answer = ran.answer;
     let pairs = ran.given;
     record::leave_pairs(answer, pairs, given);

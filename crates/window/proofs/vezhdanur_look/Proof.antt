@@ -38,7 +38,7 @@ packed-requires c κs =
     let e = r .before in
     let f = e .before in
     let a = f .before .before .before .args in
-    look-packs (a .bytes .now) (a .number) (a .told .now) (f .output-fault .result) (f .output-fault .ensures) (e .if1 .left) (r .read-desk .result) (r .read-desk .ensures) (m .look .result) (m .look .ensures)
+    look-packs (a .bytes .now) _ (a .told .now) (f .output-fault .result) (f .output-fault .ensures) (e .if1 .left) (r .read-desk .result) (r .read-desk .ensures) (m .look .result) (m .look .ensures)
 
 same-length : tie.Need-same-length
 same-length c = search needs

@@ -7,10 +7,7 @@ open-requires : tie.Need-open-requires
 open-requires c κs = search needs
 
 packed-requires : tie.Need-packed-requires
-packed-requires c κs =
-    let o = c .before .before .before in
-    let a = o .before .before .args in
-    open-packs (a .machines) (a .bytes .now) (o .open .result) (o .open .ensures) (c .if1 .taken)
+packed-requires c κs = let o = c .before .before .before in open-packs _ (o .open .result) (o .open .ensures)
 
 returns : tie.Need-returns
 returns c =

@@ -21,7 +21,7 @@ withdrawn-word-requires c κs =
     let r = m .before in
     let e = r .before .before in
     let a = e .before .before .args in
-    withdraw-packs (a .bytes .now) (e .if1 .left) (r .read-desk .result) (r .read-desk .ensures) (a .number) (m .withdraw .result) (m .withdraw .ensures)
+    withdraw-packs (a .bytes .now) (e .if1 .left) (r .read-desk .result) (r .read-desk .ensures) _ (m .withdraw .result) (m .withdraw .ensures)
 
 same-length : tie.Need-same-length
 same-length c = search needs
