@@ -11,6 +11,7 @@ use lib.Dec.{leb, eqb}
 use lib.ListN.{length, getD, take, drop, set, length-drop, drop-of-length-le}
 use lib.Seq.{drop-cons, set-out, take-all}
 use borrow.Author.Tests.{leb-true, le-leb, lt-leb, eq-eqb, ne-eqb}
+use Rattle.model.proofs.Lists.{and-true}
 use Rattle.promise.specs.declared.LineKind.{LineKind}
 use Rattle.promise.specs.declared.LineKind.the-variants.{LabelLine}
 use Rattle.promise.specs.Texts.{allWithin, isNumber, isLabel, valueFrom, readNumber, newline}
@@ -45,17 +46,13 @@ module _ (text : List ℕ) (least most i : ℕ) where
   pub bytes-past : length text ≤ i → true ≡ allWithin least most (drop i text)
   bytes-past h = rw (drop-of-length-le text h) refl
 
-both : (a b : Bool) → (a && b) ≡ true → (a ≡ true) × (b ≡ true)
-both true b e = (refl, e)
-both false b e = (e, absurd (let z : _≡_ {A = ℕ} 0 1 = cc in omega arith))
-
 pub within-at : (text : List ℕ) (least most i : ℕ) → allWithin least most text ≡ true → i < length text → (least ≤ getD text i 0) × (getD text i 0 ≤ most)
 within-at [] least most i e h = absurd (omega arith)
 within-at (b ∷ text) least most zero e h =
-    let p = both (leb least b) (leb b most) (both (leb least b && leb b most) (allWithin least most text) e .0) in
+    let p = and-true (leb least b) (leb b most) (and-true (leb least b && leb b most) (allWithin least most text) e .0) in
     (leb-true least b (p .0), leb-true b most (p .1))
 within-at (b ∷ text) least most (suc i) e h =
-    within-at text least most i (both (leb least b && leb b most) (allWithin least most text) e .1) (omega arith)
+    within-at text least most i (and-true (leb least b && leb b most) (allWithin least most text) e .1) (omega arith)
 
 -- the value of digits, from index i on
 module _ (text : List ℕ) (i v : ℕ) where

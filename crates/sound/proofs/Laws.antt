@@ -3,7 +3,7 @@ use Prim.Native.Nat.{ℕ, suc, _*_, _-_, _≤_, _<_}
 use native.Mathlib.Omega.{arith}
 use mathlib.Core.Path.{_≡_, refl, sym, _∙_, ap, ap₂}
 use mathlib.Core.Logic.{_≢_}
-use mathlib.Core.Bool.{Bool, true, false, cond, _&&_, true≢false}
+use mathlib.Core.Bool.{Bool, true, false, cond, _&&_}
 use mathlib.Core.List.{List, [], _∷_, map}
 use lib.Dec.{leb, ltb, eqb}
 use lib.ListN.{length, getD, take, drop, set, length-take}
@@ -14,6 +14,7 @@ use Rattle.model.specs.Jobs as Model
 use Rattle.model.specs.Jobs.{width, counted}
 use Rattle.model.specs.Boundaries.{leastShort}
 use Rattle.model.proofs.Exactly.{width-le}
+use Rattle.model.proofs.Lists.{and-true}
 use Rattle.promise.specs.declared.Held.{Held}
 use Rattle.promise.specs.declared.Desk.{Desk}
 use Rattle.promise.specs.Desk.{inUse, heldOf, asPlanned, toPlan, jobsFor}
@@ -96,21 +97,17 @@ used-first (h ∷ hs) = go (eqb (h .number) 0) (used-first hs)
     go false e = ap (λ (m : List Held). h ∷ m) e
 
 -- a seat that is as it must be is in range for planning
-both : (a b : Bool) → a && b ≡ true → (a ≡ true) × (b ≡ true)
-both true b e = (refl, e)
-both false b e = absurd (true≢false (sym e))
-
 seat-tests : (a b c d e f g h : Bool) → a && b && c && d && e && f && g && h ≡ true → (c ≡ true) × (e ≡ true) × (h ≡ true)
 seat-tests a b c d e f g h t =
-    let p = both (a && b && c && d && e && f && g) h t in
-    let q = both (a && b && c && d) e (both (a && b && c && d && e) f (both (a && b && c && d && e && f) g (p .0) .0) .0) in
-    (both (a && b) c (both (a && b && c) d (q .0) .0) .1, q .1, p .1)
+    let p = and-true (a && b && c && d && e && f && g) h t in
+    let q = and-true (a && b && c && d) e (and-true (a && b && c && d && e) f (and-true (a && b && c && d && e && f) g (p .0) .0) .0) in
+    (and-true (a && b) c (and-true (a && b && c) d (q .0) .0) .1, q .1, p .1)
 
 fit-tests : (a b c d e f : Bool) → a && b && c && d && e && f ≡ true → (b ≡ true) × (d ≡ true) × (e ≡ true)
 fit-tests a b c d e f t =
-    let p = both (a && b && c && d) e (both (a && b && c && d && e) f t .0) in
-    let q = both (a && b && c) d (p .0) in
-    (both a b (both (a && b) c (q .0) .0) .1, q .1, p .1)
+    let p = and-true (a && b && c && d) e (and-true (a && b && c && d && e) f t .0) in
+    let q = and-true (a && b && c) d (p .0) in
+    (and-true a b (and-true (a && b) c (q .0) .0) .1, q .1, p .1)
 
 seat-small : (machines clock : ℕ) (h : Held) → seatOk clock h ≡ true → (h .left ≤ 60000) × (h .deadline - clock ≤ 168) × (width machines (h .bound) ≤ 64)
 unfolding seatOk seatFits
@@ -141,8 +138,8 @@ module _ (machines clock : ℕ) where
           → (seatsOk clock (h .number) hs ≡ true → All InRange (toPlan machines clock (inUse hs))) → All InRange (toPlan machines clock (cond t [] (h ∷ inUse hs)))
       go true f i = tt
       go false f i =
-          let p = both (ltb before (h .number) && seatOk clock h) (seatsOk clock (h .number) hs) f in
-          (seat-small machines clock h (both (ltb before (h .number)) (seatOk clock h) (p .0) .1), i (p .1))
+          let p = and-true (ltb before (h .number) && seatOk clock h) (seatsOk clock (h .number) hs) f in
+          (seat-small machines clock h (and-true (ltb before (h .number)) (seatOk clock h) (p .0) .1), i (p .1))
 
 -- the jobs that are held
 module _ (desk : Desk) (n : ℕ) (en : n ≡ length (heldOf desk)) where
