@@ -1,4 +1,5 @@
-/* A caller of the planner: plans one list that fits and one that does not, and asks for a room.
+/* A caller of the planner and of a desk: plans one list that fits and one that does not, asks for a
+ * room, and keeps a desk of two machines for three slots.
  *
  *     gcc -O2 -Wall -Wextra -Werror example.c ../target/staticlib/libwindow.a -o example
  */
@@ -92,14 +93,86 @@ static void print_room(uint32_t machines, const struct job *jobs, size_t n, uint
         print_refusal(answer);
 }
 
+static uint32_t get_number(const uint8_t *at)
+{
+    return at[0] | (uint32_t)at[1] << 8 | (uint32_t)at[2] << 16 | (uint32_t)at[3] << 24;
+}
+
+/* The slots already run: the second number of a record. */
+static uint32_t clock_of(const uint8_t *desk)
+{
+    return get_number(desk + 4);
+}
+
+static void print_leeway(const uint8_t *desk, uint32_t number)
+{
+    uint8_t figures[VEZHDANUR_FIGURES_BYTES];
+    uint64_t answer = vezhdanur_look(desk, VEZHDANUR_DESK_BYTES, number, figures, sizeof figures);
+
+    if (vezhdanur_answer_number(answer) == 0)
+        printf("leeway=%" PRIu32 "\n", get_number(figures + 12));
+    else
+        print_refusal(answer);
+}
+
+/* Asks the desk to take a job, and shows what leeway it then has. */
+static void admit(uint8_t *desk, struct job job)
+{
+    uint64_t answer = vezhdanur_admit(desk, VEZHDANUR_DESK_BYTES, job.number, job.work,
+                                      job.deadline, job.bound);
+
+    printf("admit=%" PRIu32 "\n", job.number);
+    if (vezhdanur_answer_number(answer) == 0)
+        print_leeway(desk, job.number);
+    else
+        print_refusal(answer);
+}
+
+/* Runs a slot and prints the machines of each job that was held. */
+static void run_slot(uint8_t *desk)
+{
+    uint8_t given[VEZHDANUR_GIVEN_BYTES];
+    uint64_t answer = vezhdanur_run(desk, VEZHDANUR_DESK_BYTES, given, sizeof given);
+
+    if (vezhdanur_answer_number(answer) != 0) {
+        print_refusal(answer);
+        return;
+    }
+    printf("slot=%" PRIu32 "\n", clock_of(desk));
+    for (size_t i = 0; i < VEZHDANUR_JOBS && get_number(given + 8 * i) != 0; i++)
+        printf("job=%" PRIu32 "\nmachines=%" PRIu32 "\n", get_number(given + 8 * i),
+               get_number(given + 8 * i + 4));
+}
+
+/* Opens a desk, offers it jobs and runs slots. The record is the whole desk: each call gets it as
+ * the last one left it. */
+static void keep_desk(uint32_t machines, const struct job *jobs, size_t n, int slots)
+{
+    uint8_t desk[VEZHDANUR_DESK_BYTES];
+    uint64_t answer = vezhdanur_open(machines, desk, sizeof desk);
+
+    if (vezhdanur_answer_number(answer) != 0) {
+        print_refusal(answer);
+        return;
+    }
+    printf("desk=%" PRIu32 "\n", machines);
+    for (size_t i = 0; i < n; i++)
+        admit(desk, jobs[i]);
+    for (int i = 0; i < slots; i++)
+        run_slot(desk);
+}
+
 int main(void)
 {
     static const struct job fits[] = {{1, 4, 3, 2}, {2, 3, 2, 3}, {3, 2, 3, 1}};
     static const struct job too_much[] = {{1, 4, 2, 2}, {2, 2, 3, 1}};
+    static const struct job offered[] = {{1, 4, 2, 2}, {2, 2, 3, 1}, {2, 1, 3, 1}};
 
     plan_jobs(3, fits, 3);
     /* Refused: slots 1 and 2 of two machines are one machine-slot short. */
     plan_jobs(2, too_much, 2);
     print_room(2, too_much, 2, 2);
+    /* The second job is refused for the same reason; with half the work it is taken. */
+    keep_desk(2, offered, 3, 3);
     return 0;
 }

@@ -38,11 +38,19 @@ impl<T: Any + Copy + PartialEq> Fenced<T> {
 
     /// Whether anything but the first `may` places of the buffer has changed since it was lent, and
     /// the first place that has: below 0 it is in the guard before.
-    pub fn touched(&self, may: usize) -> Option<isize> {
+    fn touched(&self, may: usize) -> Option<isize> {
         let allowed = self.start..self.start + may;
         let now = black_box(&self.now);
         (0..now.len())
             .find(|at| !allowed.contains(at) && now[*at] != self.as_lent[*at])
             .map(|at| at as isize - self.start as isize)
+    }
+
+    /// Only the first `may` places may have changed; else it says which did.
+    pub fn untouched(&self, name: &str, may: usize) -> Result<(), String> {
+        match self.touched(may) {
+            Some(at) => Err(format!("the {name} was changed at {at}")),
+            None => Ok(()),
+        }
     }
 }

@@ -26,6 +26,34 @@ mod c {
             list_len: usize,
             boundary: u32,
         ) -> u64;
+
+        pub fn vezhdanur_open(machines: u32, desk: *mut u8, desk_len: usize) -> u64;
+
+        pub fn vezhdanur_admit(
+            desk: *mut u8,
+            desk_len: usize,
+            number: u32,
+            work: u32,
+            deadline: u32,
+            bound: u32,
+        ) -> u64;
+
+        pub fn vezhdanur_withdraw(desk: *mut u8, desk_len: usize, number: u32) -> u64;
+
+        pub fn vezhdanur_look(
+            desk: *const u8,
+            desk_len: usize,
+            number: u32,
+            figures: *mut u8,
+            figures_len: usize,
+        ) -> u64;
+
+        pub fn vezhdanur_run(
+            desk: *mut u8,
+            desk_len: usize,
+            given: *mut u8,
+            given_len: usize,
+        ) -> u64;
     }
 }
 
@@ -55,6 +83,15 @@ impl Answer {
             place: (packed / 256 % (1 << 24)) as u32,
             amount: (packed >> 32) as u32,
         }
+    }
+}
+
+/// The figure in the upper half of a yes, or the refusal.
+fn figure(packed: u64) -> Result<u32, Answer> {
+    if packed as u32 == 0 {
+        Ok((packed >> 32) as u32)
+    } else {
+        Err(Answer::unpack(packed))
     }
 }
 
@@ -90,11 +127,57 @@ pub fn plan_numbers(machines: u32, rows: &[u32], plan: &mut [u16]) -> Answer {
 pub fn room(machines: u32, list: &[u8], boundary: u32) -> Result<i32, Answer> {
     // SAFETY: the pointer comes with its slice's length.
     let packed = unsafe { c::vezhdanur_room(machines, list.as_ptr(), list.len(), boundary) };
-    if packed as u32 == 0 {
-        Ok((packed >> 32) as u32 as i32)
-    } else {
-        Err(Answer::unpack(packed))
-    }
+    figure(packed).map(|room| room as i32)
+}
+
+/// Writes the record of an empty desk.
+pub fn open(machines: u32, desk: &mut [u8]) -> Answer {
+    // SAFETY: as for the plan calls, here and below.
+    Answer::unpack(unsafe { c::vezhdanur_open(machines, desk.as_mut_ptr(), desk.len()) })
+}
+
+/// Asks a desk to take a job, whose deadline is a slot number on the clock.
+pub fn admit(desk: &mut [u8], job: Job) -> Answer {
+    Answer::unpack(unsafe {
+        c::vezhdanur_admit(
+            desk.as_mut_ptr(),
+            desk.len(),
+            job.number,
+            job.work,
+            job.deadline,
+            job.bound,
+        )
+    })
+}
+
+/// Takes a job off the desk; its remaining work, or the refusal.
+pub fn withdraw(desk: &mut [u8], number: u32) -> Result<u32, Answer> {
+    figure(unsafe { c::vezhdanur_withdraw(desk.as_mut_ptr(), desk.len(), number) })
+}
+
+/// Writes a job's remaining work, deadline, bound and leeway as four numbers of 4 bytes.
+pub fn look(desk: &[u8], number: u32, figures: &mut [u8]) -> Answer {
+    Answer::unpack(unsafe {
+        c::vezhdanur_look(
+            desk.as_ptr(),
+            desk.len(),
+            number,
+            figures.as_mut_ptr(),
+            figures.len(),
+        )
+    })
+}
+
+/// Runs a slot and writes what it gives out as 32 pairs of numbers of 4 bytes.
+pub fn run(desk: &mut [u8], given: &mut [u8]) -> Answer {
+    Answer::unpack(unsafe {
+        c::vezhdanur_run(
+            desk.as_mut_ptr(),
+            desk.len(),
+            given.as_mut_ptr(),
+            given.len(),
+        )
+    })
 }
 
 /// What a plan call says of a list: its plan, or the refusal.

@@ -5,7 +5,7 @@ use crate::model::{jobs, jobs_of_bytes, Job};
 
 /// The fields' greatest values; the least is 1.
 pub const GREATEST: [u32; 4] = [65_535, 60_000, 168, 64];
-const MOST_MACHINES: u32 = 64;
+pub const MOST_MACHINES: u32 = 64;
 const MOST_ROWS: usize = 32;
 const LAST_BOUNDARY: u32 = 168;
 

@@ -31,15 +31,20 @@ pub fn jobs(numbers: &[u32]) -> Vec<Job> {
     numbers.chunks_exact(4).map(job).collect()
 }
 
-/// The numbers of a list as bytes, lowest byte first.
+/// Numbers as bytes, lowest byte first.
 pub fn bytes(numbers: &[u32]) -> Vec<u8> {
     numbers.iter().flat_map(|n| n.to_le_bytes()).collect()
 }
 
+/// The numbers of bytes; an unfinished one at the end is left out.
+pub fn numbers_of_bytes(bytes: &[u8]) -> Vec<u32> {
+    let number = |b: &[u8]| u32::from_le_bytes([b[0], b[1], b[2], b[3]]);
+    bytes.chunks_exact(4).map(number).collect()
+}
+
 /// The jobs of a list of bytes.
 pub fn jobs_of_bytes(list: &[u8]) -> Vec<Job> {
-    let number = |b: &[u8]| u32::from_le_bytes([b[0], b[1], b[2], b[3]]);
-    jobs(&list.chunks_exact(4).map(number).collect::<Vec<_>>())
+    jobs(&numbers_of_bytes(list))
 }
 
 /// The rows of a plan from its numbers.

@@ -1,6 +1,7 @@
 //! Seeded random numbers (SplitMix64), so that a run can be repeated.
 
 use std::env;
+use std::ops::RangeInclusive;
 
 pub struct Random(u64);
 
@@ -31,12 +32,44 @@ impl Random {
         least + self.below((greatest - least + 1) as usize) as u32
     }
 
+    /// The same, with both ends drawn often.
+    pub fn within_or_end(&mut self, least: u32, greatest: u32) -> u32 {
+        match self.below(3) {
+            0 => least,
+            1 => greatest,
+            _ => self.within(least, greatest),
+        }
+    }
+
     pub fn one_in(&mut self, n: usize) -> bool {
         self.below(n) == 0
     }
 
     pub fn pick<T: Copy>(&mut self, from: &[T]) -> T {
         from[self.below(from.len())]
+    }
+
+    /// A value out of range. Many look right to a reader that drops bytes or turns them round.
+    pub fn outside(&mut self, range: RangeInclusive<u32>, value: u32) -> u32 {
+        let values = [
+            range.start().saturating_sub(1),
+            range.end() + 1,
+            range.end() + 2,
+            value | 1 << 8,
+            value | 1 << 16,
+            value | 1 << 24,
+            value | 1 << 31,
+            value.swap_bytes(),
+            0x0001_0001,
+            u32::MAX,
+            self.any(),
+        ];
+        loop {
+            let value = self.pick(&values);
+            if !range.contains(&value) {
+                return value;
+            }
+        }
     }
 
     pub fn shuffle<T>(&mut self, items: &mut [T]) {

@@ -9,7 +9,6 @@ use host::model::{bytes, jobs, numbers, rows, rows_of_bytes, show, show_plan, Jo
 use host::random::{cases, Any, Random};
 use host::rule;
 use std::fmt::Debug;
-use std::ops::RangeInclusive;
 
 /// One of the two plan calls: the lengths of a row of its list and of its plan, how its list is
 /// laid out and its plan is read, the call, and what it must answer.
@@ -83,10 +82,10 @@ fn damaged<T: Any, P>(
     let mut boundary = random.within(0, 168);
     let mut fields = numbers(&good);
     if hit(Machines) {
-        machines = outside(1..=64, machines, random);
+        machines = random.outside(1..=64, machines);
     }
     if hit(Boundary) {
-        boundary = outside(0..=168, boundary, random);
+        boundary = random.outside(0..=168, boundary);
     }
     if hit(Rows) {
         let n = random.pick(&[33, 34, 40, 256, 256 + good.len(), 300]);
@@ -99,7 +98,7 @@ fn damaged<T: Any, P>(
         for _ in 0..random.within(1, 3) {
             let (i, field) = (random.below(n), random.below(4));
             let value = &mut fields[4 * i + field];
-            *value = outside(1..=GREATEST[field], *value, random);
+            *value = random.outside(1..=GREATEST[field], *value);
         }
     }
     if hit(Twice) && n > 0 {
@@ -147,45 +146,11 @@ fn good_list(random: &mut Random) -> List {
     (random.within(1, 8), jobs)
 }
 
-/// A value out of range. Many look right to a reader that drops bytes or turns them round.
-fn outside(range: RangeInclusive<u32>, value: u32, random: &mut Random) -> u32 {
-    let values = [
-        0,
-        range.end() + 1,
-        range.end() + 2,
-        value | 1 << 8,
-        value | 1 << 16,
-        value | 1 << 24,
-        value | 1 << 31,
-        value.swap_bytes(),
-        0x0001_0001,
-        u32::MAX,
-        random.any(),
-    ];
-    loop {
-        let value = random.pick(&values);
-        if !range.contains(&value) {
-            return value;
-        }
-    }
-}
-
 fn same<A: PartialEq + Debug>(said: A, expected: A) -> Result<(), String> {
     if said == expected {
         Ok(())
     } else {
         Err(format!("{said:?} in place of {expected:?}"))
-    }
-}
-
-/// Only the first `may` places of a buffer may have changed.
-fn untouched<T>(name: &str, buffer: &Fenced<T>, may: usize) -> Result<(), String>
-where
-    T: Any + Copy + PartialEq,
-{
-    match buffer.touched(may) {
-        Some(at) => Err(format!("the {name} was changed at {at}")),
-        None => Ok(()),
     }
 }
 
@@ -203,13 +168,13 @@ where
         said,
         (form.expected)(call.machines, &call.list, call.plan_len),
     )?;
-    untouched("list", &list, 0)?;
+    list.untouched("list", 0)?;
     if said != Answer::YES {
-        untouched("plan", &plan, 0)?;
+        plan.untouched("plan", 0)?;
         return Ok(said.number);
     }
     let written = form.plan_row * call.jobs.len();
-    untouched("plan", &plan, written)?;
+    plan.untouched("plan", written)?;
     let planned = (form.read)(&plan.lend()[..written]);
     let rule = rule::plan(call.machines, &call.jobs);
     if planned != rule {
@@ -225,7 +190,7 @@ fn room(call: &Call<u8>, random: &mut Random) -> Result<u32, String> {
     let said = ffi::room(call.machines, list.lend(), call.boundary);
 
     same(said, ladder::room(call.machines, &call.list, call.boundary))?;
-    untouched("list", &list, 0)?;
+    list.untouched("list", 0)?;
     Ok(said.err().map_or(0, |refusal| refusal.number))
 }
 
