@@ -21,7 +21,7 @@ use Rattle.promise.specs.Window.{pack, Packs}
 use Rattle.promise.specs.DeskWindow.{deskBytes, deskRead, recordFault, outputFault, recordLeft, outputLeft, openBytesAnswer, recordOpened, OpenBytesPromise, admitBytesAnswer, recordAdmitted, AdmitBytesPromise, withdrawBytesAnswer, withdrawPacked, recordWithdrawn, WithdrawBytesPromise, lookNumbers, lookBytesAnswer, figuresTold, LookBytesPromise, pairNumbers, runBytesAnswer, recordRun, pairsTold, RunBytesPromise}
 use Rattle.promise.specs.DeskWindowClaims.{LeftAsLent, DeskAnswersPack}
 use Rattle.promise.proofs.Ladder.{same-number, first-stop, first-past}
-use Rattle.promise.proofs.Packing.{count-packs}
+use Rattle.promise.proofs.Packing.{small-packs, count-small}
 use Rattle.promise.proofs.DeskWindowing.{no-job, a-record}
 use Rattle.promise.proofs.DeskWindowBytes.{output-record, output-long}
 use Rattle.promise.proofs.Theorems.{desk-window-answers-by-the-table, desk-window-refusal-leaves-the-bytes, desk-window-packs}
@@ -45,7 +45,7 @@ refusal-word q a e h = λ z. h (sym (same-number e) ∙ z)
 -- Open
 pub open-packs : (machines : ℕ) (opened : Desked) → opened ≡ openOf machines → Packs (opened .answer)
 unfolding openOf
-open-packs machines opened e = rw e (count-packs machines)
+open-packs machines opened e = rw e (small-packs (count-small machines))
 
 module _ (machines : ℕ) (bytes : List ℕ) (opened : Desked) (e : opened ≡ openOf machines) where
   module _ (h : opened .answer .number ≢ 0) where
