@@ -1,4 +1,5 @@
-/* The planner of the run desk for C and C++: does a list of jobs fit, and which machines run what.
+/* The planner and the run desk for C and C++: does a list of jobs fit, which machines run what, and
+ * a desk that takes jobs one by one and runs them slot by slot.
  *
  * THE ROOM. A room has C equal machines, 1 to 64. Time is in slots, counted from 1. A list is 0 to
  * 32 rows, counted from 0, and each row is a job of four numbers:
@@ -24,28 +25,51 @@
  * Below zero it is a shortage. The boundaries of a list are 0 and each deadline in it. A list fits
  * exactly if none of them is short.
  *
- * ANSWERS. Each call returns number + 256 * place + 2^32 * amount (a yes of vezhdanur_room has the
- * room for an amount, see there). Number 0 is a yes. Any other number is a refusal, and then
- * nothing has been written:
+ * ANSWERS. Each call returns number + 256 * place + 2^32 * amount (a yes of vezhdanur_room and of
+ * vezhdanur_withdraw has a figure for an amount, see there). Number 0 is a yes. Any other number is
+ * a refusal, and then nothing has been written:
  *
  *   no.  given when                                     place                 amount
  *    1   machines is not 1 to 64                        0                     0
  *    2   the list is not a whole number of rows         0                     0
  *    3   the list has more than 32 rows                 0                     0
- *    4   a field is out of range                        its row               the field, 1 to 4
- *    5   the job number stands in an earlier row, too   the later row         0
- *    6   the plan buffer is too short                   0                     0
- *    7   the list does not fit                          least short boundary  its shortage
+ *    4   a field is out of range                        its row (desk: 0)     the field, 1 to 4
+ *    5   the job number stands in an earlier row, too,  the later row         0
+ *        or is held on the desk                         (desk: 0)
+ *    6   the plan buffer is too short; on a desk, the   0                     0
+ *        buffer to write into has the wrong length
+ *    7   the list, or the desk with the new job, does   least short boundary  its shortage
+ *        not fit                                        (desk: plus clock)
+ *    8   32 jobs are held                               0                     0
  *    9   the boundary is over 168                       0                     0
+ *   10   no such job is held                            0                     0
+ *   11   the clock is at 100000                         0                     0
+ *   12   the desk's bytes are not one sound record      0                     0
  *
  * The first that holds is given, in this order. Both plan calls: 1, 2, 3, then row by row from row
- * 0 (fields 1 to 4, then 5), then 6, then 7. Room: 1, 2, 3, the rows in the same way, then 9.
+ * 0 (fields 1 to 4, then 5), then 6, then 7. Room: 1, 2, 3, the rows in the same way, then 9. Open:
+ * 1, 6. Admit: 12, 4, 5, 8, 7. Withdraw: 12, 10. Look: 12, 6, 10. Run: 12, 6, 11.
+ *
+ * THE DESK holds up to 32 jobs of a room and a clock, the number of slots already run. It is a
+ * record that the caller keeps: 194 numbers of four bytes, lowest byte first. Number 0 is C, number
+ * 1 the clock, and seat i (0 to 31) the six numbers from 6 * i + 2 on: job number, admitted work,
+ * remaining work, deadline (a slot on the clock), bound, and the slots it had at admission. Held
+ * jobs stand by rising number; the seats after them are zero. Open makes a record and each call on
+ * it leaves the next one. A job that was admitted and not withdrawn has had exactly its work once
+ * its due slot has run.
+ *
+ * That promise, over a history of calls, holds only if each call gets the record that the last one
+ * left. A record that is damaged beyond soundness is refused with 12; one that was altered and is
+ * still sound is not noticed, and is the desk from then on.
+ *
+ * A 12 for bytes that are not one record long, and a 6 for a desk call's buffer, are this header's
+ * own: the scope paper gives these numbers for an unsound desk and a short plan buffer alone.
  *
  * WHAT A CALLER OWES. Each pointer is valid for the length beside it, aligned for its type, and
- * not null, even where the length is 0. List and plan do not overlap, and no other thread writes
- * to them during the call. Everything else is tested: any numbers and any lengths get an answer.
- * The calls keep nothing between them, so several threads may call at once, each with its own plan
- * buffer.
+ * not null, even where the length is 0. The buffers of a call do not overlap, and no other thread
+ * writes to them during the call. Everything else is tested: any numbers, any lengths and any bytes
+ * get an answer. The calls keep nothing between them, so several threads may call at once, each
+ * with its own buffers to write into; calls on one desk come one after the other.
  */
 #ifndef VEZHDANUR_WINDOW_H
 #define VEZHDANUR_WINDOW_H
@@ -61,6 +85,9 @@ extern "C" {
 #define VEZHDANUR_JOBS 32            /* the most rows of a list */
 #define VEZHDANUR_LIST_ROW_BYTES 16  /* the bytes of a list's row */
 #define VEZHDANUR_PLAN_ROW_BYTES 336 /* the bytes of a plan's row */
+#define VEZHDANUR_DESK_BYTES 776     /* the bytes of a desk's record */
+#define VEZHDANUR_FIGURES_BYTES 16   /* the bytes of Look's figures */
+#define VEZHDANUR_GIVEN_BYTES 256    /* the bytes of Run's pairs */
 
 /* Plans a list given as bytes. Both lengths count bytes, and both buffers may have any alignment.
  *
@@ -89,6 +116,33 @@ uint64_t vezhdanur_plan_numbers(uint32_t machines, const uint32_t *rows, size_t 
 uint64_t vezhdanur_room(uint32_t machines, const uint8_t *list, size_t list_len,
                         uint32_t boundary);
 
+/* Opens a desk of so many machines: writes the record of an empty one at clock 0. A desk_len that
+ * is not 776 is a 6. */
+uint64_t vezhdanur_open(uint32_t machines, uint8_t *desk, size_t desk_len);
+
+/* Admits a job if all held work and its own can be finished in time. The deadline is a slot on the
+ * clock, at least clock + 1 and at most clock + 168 and 100000. A yes is 0 as a whole and leaves
+ * the record with the job in its seat. In this and the next three calls, a desk_len that is not
+ * 776 is a 12. */
+uint64_t vezhdanur_admit(uint8_t *desk, size_t desk_len, uint32_t number, uint32_t work,
+                         uint32_t deadline, uint32_t bound);
+
+/* Withdraws a job. A yes leaves the record without it, and has 0 in its low half and the remaining
+ * work in its upper half: test vezhdanur_answer_number and not the whole answer. */
+uint64_t vezhdanur_withdraw(uint8_t *desk, size_t desk_len, uint32_t number);
+
+/* Looks a job up. A yes is 0 as a whole and writes 16 bytes: remaining work, deadline, bound and
+ * leeway (100 * slots at admission / run length of the admitted work, rounded down), four bytes
+ * each, lowest first. Bytes after these stay as they were. A figures_len below 16 is a 6. */
+uint64_t vezhdanur_look(const uint8_t *desk, size_t desk_len, uint32_t number,
+                        uint8_t *figures, size_t figures_len);
+
+/* Runs the next slot: slot 1 of the plan of the held jobs. A yes is 0 as a whole, leaves the record
+ * after the slot, and writes 256 bytes: 32 pairs of job number and machines, four bytes each,
+ * lowest first, one pair for each job that was held (0 machines too), by rising number, zeros after
+ * the last. Bytes after these stay as they were. A given_len below 256 is a 6. */
+uint64_t vezhdanur_run(uint8_t *desk, size_t desk_len, uint8_t *given, size_t given_len);
+
 /* The number of an answer: 0 for a yes, else the refusal. */
 static inline uint32_t vezhdanur_answer_number(uint64_t answer)
 {
@@ -101,7 +155,8 @@ static inline uint32_t vezhdanur_answer_place(uint64_t answer)
     return (uint32_t)(answer >> 8 & 0xffffff);
 }
 
-/* The amount of an answer of a plan call, or of any refusal. */
+/* The amount of an answer of a plan call, or of any refusal; the remaining work in a yes of
+ * vezhdanur_withdraw. */
 static inline uint32_t vezhdanur_answer_amount(uint64_t answer)
 {
     return (uint32_t)(answer >> 32);
