@@ -164,9 +164,9 @@ module _ (bytes : List ℕ) (lent written : ℕ) where
     unfolding soundFault
     refused h = fault-given (not (isSound (deskRead bytes))) 12 (λ z. h (same-number sound-read ∙ z))
 
-    pub output-unsound : twelve .number ≢ 0 → 12 ≡ (outputFault bytes lent written) .number
+    pub output-unsound : twelve .number ≢ 0 → twelve .number ≡ (outputFault bytes lent written) .number
     unfolding outputFault
-    output-unsound h = rw (a-record bytes l, refused h) refl
+    output-unsound h = rw (a-record bytes l, refused h) (same-number (sound-read ∙ refused h))
 
     module _ (z : twelve .number ≡ 0) where
       clear : soundFault (deskRead bytes) ≡ yes

@@ -162,12 +162,12 @@ pub extern "C" fn vezhdanur_open(machines: u32, bytes: &mut [u8]) -> u64
     if count.number != 0 {
         return packed(count);
     }
-    if bytes.len() != 776 {
-        return 6;
+    if bytes.len() == 776 {
+        let empty = opened.desk;
+        record::write_desk(empty, bytes);
+        return 0;
     }
-    let empty = opened.desk;
-    record::write_desk(empty, bytes);
-    0
+    6
 }
 
 // Admit: the record with the job in its seat, or as it was.
@@ -234,7 +234,7 @@ pub fn output_fault(bytes: &[u8], lent: usize, written: usize) -> u32
     }
     let unsound = desk::sound_fault(record::read_desk(bytes));
     if unsound.number != 0 {
-        return 12;
+        return unsound.number;
     }
     if lent < written {
         return 6;
@@ -242,7 +242,7 @@ pub fn output_fault(bytes: &[u8], lent: usize, written: usize) -> u32
     0
 }
 
-// Look: what is left of a job, its deadline, bound and leeway.
+// Look: the four figures of a job.
 #[no_mangle]
 pub extern "C" fn vezhdanur_look(bytes: &[u8], number: u32, told: &mut [u8]) -> u64
     ensures { λ r. ⌜ LookBytesPromise (now (bytes .entry)) number (now (told .entry)) r (now (bytes .exit)) (now (told .exit)) ⌝ }

@@ -16,27 +16,27 @@ returns c =
     let a = o .before .before .args in
     open-refused (a .machines) (a .bytes .now) (o .open .result) (o .open .ensures) (t .if1 .taken) (c .packed .result) (c .packed .ensures)
 
-returns-2 : tie.Need-returns-2
-returns-2 c =
-    let e = c .before in
-    let o = e .before .before .before in
-    let a = o .before .before .args in
-    open-six (a .machines) (a .bytes .now) (o .open .result) (o .open .ensures) (e .if1 .left) (c .if2 .taken)
-
 write-desk-requires : tie.Need-write-desk-requires
 write-desk-requires c κs = search needs
 
 same-length : tie.Need-same-length
 same-length c = search needs
 
-returns-3 : tie.Need-returns-3
-returns-3 c =
+returns-2 : tie.Need-returns-2
+returns-2 c =
     let w = c .before .before in
     let k = w .before .before .before in
     let e = k .before in
     let o = e .before .before .before in
     let a = o .before .before .args in
-    open-written (a .machines) (a .bytes .now) (o .open .result) (o .open .ensures) (e .if1 .left) (k .if2 .left) _ (w .write-desk .ensures)
+    open-written (a .machines) (a .bytes .now) (o .open .result) (o .open .ensures) (e .if1 .left) (k .if2 .taken) _ (w .write-desk .ensures)
+
+returns-3 : tie.Need-returns-3
+returns-3 c =
+    let e = c .before in
+    let o = e .before .before .before in
+    let a = o .before .before .args in
+    open-six (a .machines) (a .bytes .now) (o .open .result) (o .open .ensures) (e .if1 .left) (c .if2 .left)
 
 pub vezhdanur-open-spec : {M : Type 1} → statement M
 vezhdanur-open-spec =
@@ -45,7 +45,7 @@ vezhdanur-open-spec =
     open-requires
     packed-requires
     returns
-    returns-2
     write-desk-requires
     same-length
+    returns-2
     returns-3)
