@@ -12,7 +12,7 @@ const PAUSE: Duration = Duration::from_millis(20);
 
 /// VEZHDANUR_PLAN (a relative path counts from this package), and otherwise where the project
 /// builds it.
-fn path() -> PathBuf {
+pub fn path() -> PathBuf {
     let program = env::var_os("VEZHDANUR_PLAN").unwrap_or_else(|| "../target/bin/plan".into());
     Path::new(env!("CARGO_MANIFEST_DIR")).join(program)
 }
