@@ -28,7 +28,7 @@ use Rattle.promise.specs.declared.Desk.{Desk}
 use Rattle.promise.specs.Answers.{refusal, fault}
 use Rattle.promise.specs.Rows.{Field, the-number, the-work, the-deadline, the-bound, fieldOf, Window, least, greatest, OutOfRange, countFault}
 use Rattle.promise.specs.Desk.{heldOf, deskOf, asPlanned, toPlan, jobsFor, SoundSeat, Sound, column}
-use Rattle.promise.specs.DeskCalls.{openOf, admitWindow, newHeld, withNew, admitAnswer, handed, admitOf, findAnswer, without, withdrawOf, lookOf, runAnswer, lowered, afterRun, runOf, asked, HeldAs, DeskHolds}
+use Rattle.promise.specs.DeskCalls.{openOf, admitWindow, newHeld, withNew, admitAnswer, handed, admitOf, findAnswer, without, withdrawOf, lookOf, runAnswer, lowered, afterRun, runOf, asked, HeldAs, DeskHolds, figure, pairs}
 use Rattle.promise.specs.DeskClaims.{SoundnessIsKept, RefusalHandsTheDeskBack}
 use Rattle.promise.proofs.Ladder.{Tells, fails, tells-lt, tells-or}
 use Rattle.promise.proofs.DeskTable.{Admissible, admit-yes, run-yes}
@@ -38,13 +38,20 @@ use Rattle.promise.proofs.DeskSeats.{sound-seated, made-sound, seated-p
 handed-back : (a : Answer) (new old : Desk) → a .number ≢ 0 → handed a new old ≡ old
 handed-back a new old n = rw (ne-eqb (a .number) 0 n)
 
+no-figure : (a : Answer) (n : ℕ) → a .number ≢ 0 → figure a n ≡ 0
+no-figure a n h = rw (ne-eqb (a .number) 0 h) refl
+
 pub refusal-hands-the-desk-back : RefusalHandsTheDeskBack
-unfolding admitOf withdrawOf lookOf runOf
+unfolding admitOf withdrawOf lookOf runOf pairs
 refusal-hands-the-desk-back desk = record {
   admit = λ j n. handed-back (admitAnswer desk j) _ desk n;
   withdraw = λ k n. handed-back (findAnswer desk k) _ desk n;
   look = λ n. refl;
   run = λ n. handed-back (runAnswer desk) _ desk n;
+  withdraw-figure = λ k n. no-figure (findAnswer desk k) _ n;
+  look-figures = λ k n.
+      (no-figure (findAnswer desk k) _ n, no-figure (findAnswer desk k) _ n, no-figure (findAnswer desk k) _ n, no-figure (findAnswer desk k) _ n);
+  run-pairs = λ n. rw (ne-eqb ((runAnswer desk) .number) 0 n) refl;
 }
 
 -- what is handed is sound if the old desk is and, on a yes, the new one

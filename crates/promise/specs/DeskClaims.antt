@@ -56,12 +56,16 @@ pub record StaysSound (desk : Desk) : Type 0 where
 abbrev pub SoundnessIsKept : Type 0
 SoundnessIsKept = ((machines : ℕ) → Sound ((openOf machines) .desk)) × ((desk : Desk) → Sound desk → StaysSound desk)
 
--- S3: a refused call returns the desk as it came
+-- S3: a refused call returns the desk as it came, and "A call's other figures are 0 in a refusal"
 pub record HandsBack (desk : Desk) : Type 0 where
   pub admit : (j : Job) → ((admitOf desk j) .answer) .number ≢ 0 → (admitOf desk j) .desk ≡ desk
   pub withdraw : (n : ℕ) → ((withdrawOf desk n) .answer) .number ≢ 0 → (withdrawOf desk n) .desk ≡ desk
   pub look : (n : ℕ) → (lookOf desk n) .desk ≡ desk
   pub run : ((runOf desk) .answer) .number ≢ 0 → (runOf desk) .desk ≡ desk
+  pub withdraw-figure : (n : ℕ) → ((withdrawOf desk n) .answer) .number ≢ 0 → (withdrawOf desk n) .left ≡ 0
+  pub look-figures : (n : ℕ) → ((lookOf desk n) .answer) .number ≢ 0
+      → ((lookOf desk n) .left ≡ 0) × ((lookOf desk n) .deadline ≡ 0) × ((lookOf desk n) .bound ≡ 0) × ((lookOf desk n) .leeway ≡ 0)
+  pub run-pairs : ((runOf desk) .answer) .number ≢ 0 → (runOf desk) .given ≡ replicate 32 (record { number = 0; machines = 0 })
 
 abbrev pub RefusalHandsTheDeskBack : Type 0
 RefusalHandsTheDeskBack = (desk : Desk) → HandsBack desk

@@ -123,8 +123,12 @@ starred =
     -- P6
     ∷ record { case = list 64 (row 1 5 2 2); stated = short 1 0 1 }
     ∷ record { case = list 64 (row 1 4 2 2); stated = planOf ((2 ∷ 2 ∷ []) ∷ []) }
-    -- P7
+    -- P7, also as a file
     ∷ record { case = list 2 (row 1 2 2 2 ++ row 2 3 3 1); stated = planOf ((1 ∷ 1 ∷ []) ∷ (1 ∷ 1 ∷ 1 ∷ []) ∷ []) }
+    ∷ record {
+      case = file (ascii "machines=2\njob=1\nwork=2\ndeadline=2\nbound=2\nlabel=\njob=2\nwork=3\ndeadline=3\nbound=1\nlabel=\n");
+      stated = prints (ascii "machines=2\nresult=plan\njob=1\nrun=1:1,2:1\njob=2\nrun=1:1,2:1,3:1\n");
+    }
     -- P8
     ∷ record { case = list 3 (row 1 4 2 3 ++ row 2 2 2 1); stated = planOf ((2 ∷ 2 ∷ []) ∷ (1 ∷ 1 ∷ []) ∷ []) }
     -- P9
