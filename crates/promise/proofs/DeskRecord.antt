@@ -10,10 +10,11 @@ use Rattle.model.proofs.Lists.{All-of, All-under}
 use Rattle.promise.specs.declared.Held.{Held}
 use Rattle.promise.specs.declared.Desk.{Desk}
 use Rattle.promise.specs.Desk.{unused}
+use Rattle.promise.specs.Claims.{fourFrom}
 use Rattle.promise.specs.Window.{wordAt, wordsFrom, sent}
 use Rattle.promise.specs.DeskClaims.{Seated}
 use Rattle.promise.specs.DeskWindow.{seatNumbers, deskNumbers, deskBytes, seatAt, seatsFrom, deskRead}
-use Rattle.promise.specs.DeskWindowClaims.{RecordsAreReadBack, RecordsAreWrittenBack}
+use Rattle.promise.specs.DeskWindowClaims.{RecordsAreReadBack, RecordsAreLaidOut, RecordsAreWrittenBack}
 use Rattle.promise.proofs.Words.{sent-length, word-on, words-on, first-word, bytes-sent}
 use Rattle.promise.proofs.Buffer.{flat-length, flat-at}
 
@@ -94,6 +95,45 @@ record-length desk e = omega (arith, sent-length (deskNumbers desk), each-length
 pub records-are-read-back : RecordsAreReadBack
 unfolding deskBytes
 records-are-read-back desk e = (desk-read desk e, record-length desk e, bytes-sent (deskNumbers desk))
+
+-- ---- where its numbers stand
+
+-- number k stands in the four bytes from 4 × k on
+four-at : (bytes : List ℕ) (k m : ℕ) → 4 * k ≡ m → fourFrom bytes m ≡ wordAt bytes k
+unfolding wordAt
+four-at bytes k m e = ap (fourFrom bytes) (sym e)
+
+seats-at : (bytes : List ℕ) (a n i : ℕ) (none : Held) → i < n → getD (seatsFrom bytes a n) i none ≡ seatAt bytes (a + i)
+seats-at bytes a zero i none l = absurd (omega arith)
+seats-at bytes a (suc n) zero none l = let e : a ≡ a + 0 = omega arith in ap (seatAt bytes) e
+seats-at bytes a (suc n) (suc i) none l =
+    let e : suc a + i ≡ a + suc i = omega arith in seats-at bytes (suc a) n i none (omega arith) ∙ ap (seatAt bytes) e
+
+pub records-are-laid-out : RecordsAreLaidOut
+unfolding deskRead seatAt
+records-are-laid-out desk s = (
+  four-at bytes 0 0 refl ∙ ap (λ (d : Desk). d .machines) same,
+  four-at bytes 1 4 refl ∙ ap (λ (d : Desk). d .clock) same,
+  λ i none l. let h = seat i none l in record {
+    number = four-at bytes (6 * i + 2) (24 * i + 8) (omega arith) ∙ ap (λ (h : Held). h .number) h;
+    work = four-at bytes (6 * i + 3) (24 * i + 12) (omega arith) ∙ ap (λ (h : Held). h .work) h;
+    left = four-at bytes (6 * i + 4) (24 * i + 16) (omega arith) ∙ ap (λ (h : Held). h .left) h;
+    deadline = four-at bytes (6 * i + 5) (24 * i + 20) (omega arith) ∙ ap (λ (h : Held). h .deadline) h;
+    bound = four-at bytes (6 * i + 6) (24 * i + 24) (omega arith) ∙ ap (λ (h : Held). h .bound) h;
+    slots = four-at bytes (6 * i + 7) (24 * i + 28) (omega arith) ∙ ap (λ (h : Held). h .slots) h;
+  },
+)
+  where
+    bytes : List ℕ
+    bytes = deskBytes desk
+
+    same : deskRead bytes ≡ desk
+    same = records-are-read-back desk s .0
+
+    seat : (i : ℕ) (none : Held) → i < 32 → seatAt bytes i ≡ getD (desk .seats) i none
+    seat i none l =
+        let e : i ≡ 0 + i = omega arith in
+        ap (seatAt bytes) e ∙ sym (seats-at bytes 0 32 i none l) ∙ ap (λ (d : Desk). getD (d .seats) i none) same
 
 -- ---- written as it was read
 

@@ -1,8 +1,8 @@
 -- The headline statements of specs/Claims.antt, DeskClaims.antt, DeskWindowClaims.antt, TextClaims.antt and
 -- Starred.antt, one theorem each.
-use Rattle.promise.specs.Claims.{WindowReadsTheNumbers, WindowTakesSixteenARow, WindowCountsBytes, WindowCountsMachinesFirst, YesWritesThePlan, RefusalWritesNothing, PlanAnswersByTheTable, RoomAnswersByTheTable, PlanSevenIsTrue, RoomFigureIsTheRoom, RowOrderPlaysNoPart, PlanPromiseLeavesOne, RoomPromiseLeavesOne, AnswersPack, PackingIsOneToOne, RoomIsReadBack, WindowWritesThePlan, WindowPromisesLeaveOne}
+use Rattle.promise.specs.Claims.{WindowReadsTheNumbers, WindowReadsLowestFirst, WindowTakesSixteenARow, WindowCountsBytes, WindowCountsMachinesFirst, YesWritesThePlan, RefusalWritesNothing, PlanAnswersByTheTable, RoomAnswersByTheTable, PlanSevenIsTrue, RoomFigureIsTheRoom, RowOrderPlaysNoPart, PlanPromiseLeavesOne, RoomPromiseLeavesOne, AnswersPack, PackingIsOneToOne, RoomIsReadBack, WindowWritesThePlan, WindowPromisesLeaveOne}
 use Rattle.promise.specs.DeskClaims.{SoundIsTested, DeskAnswersByTheTable, SoundnessIsKept, RefusalHandsTheDeskBack, AdmitSevenIsTrue, RunGivesOutThePlan, DeskCallsLeaveOne, OpenAnswersByTheTable, SeatsAreToldAndKept, DemandThree}
-use Rattle.promise.specs.DeskWindowClaims.{RecordsAreReadBack, RecordsAreWrittenBack, DeskWindowAnswersByTheTable, DeskWindowRefusalLeavesTheBytes, DeskWindowHandsTheDeskOn, HistoryGoesThroughTheWindow, DeskWindowTellsInPlace, DeskWindowPacks, DeskWindowPromisesLeaveOne}
+use Rattle.promise.specs.DeskWindowClaims.{RecordsAreReadBack, RecordsAreLaidOut, RecordsAreWrittenBack, DeskWindowAnswersByTheTable, DeskWindowRefusalLeavesTheBytes, DeskWindowHandsTheDeskOn, HistoryGoesThroughTheWindow, DeskWindowTellsInPlace, DeskWindowPacks, DeskWindowPromisesLeaveOne}
 use Rattle.promise.specs.TextClaims.{NumbersAreReadBack, NumbersArePrintedBack, FileIsRead, FilesHaveTheirOwnText, TextIsPrinted, FilesAreNoTwoNorSix, PrintedNumbersAreWhole, PairsAreTheSlotsInUse, LabelsPlayNoPart, FileOrderPlaysNoPart, TextFits, TextPromisesLeaveOne}
 use Rattle.promise.specs.Starred.{StarredCasesComeOut}
 use Rattle.promise.proofs.Buffer
@@ -88,6 +88,9 @@ window-promises-leave-one = Unique.window-promises-leave-one
 pub window-reads-the-numbers : WindowReadsTheNumbers
 window-reads-the-numbers = Words.window-reads-the-numbers
 
+pub window-reads-lowest-first : WindowReadsLowestFirst
+window-reads-lowest-first = Words.window-reads-lowest-first
+
 pub window-counts-bytes : WindowCountsBytes
 window-counts-bytes = Words.window-counts-bytes
 
@@ -138,6 +141,9 @@ demand-three = HistoryKept.demand-three
 -- the desk at the window
 pub records-are-read-back : RecordsAreReadBack
 records-are-read-back = DeskRecord.records-are-read-back
+
+pub records-are-laid-out : RecordsAreLaidOut
+records-are-laid-out = DeskRecord.records-are-laid-out
 
 pub records-are-written-back : RecordsAreWrittenBack
 records-are-written-back = DeskRecord.records-are-written-back

@@ -110,6 +110,13 @@ RoomIsReadBack =
 abbrev pub WindowReadsTheNumbers : Type 0
 WindowReadsTheNumbers = (ns : List ℕ) → (wordsOf (sent ns) ≡ ns) × (All (λ n. n < 4294967296) ns → All (λ b. b < 256) (sent ns))
 
+-- P4: "lowest byte first": the number of the four bytes from index k on, lowest first
+abbrev pub fourFrom : List ℕ → ℕ → ℕ
+fourFrom bytes k = getD bytes k 0 + 256 * getD bytes (k + 1) 0 + 65536 * getD bytes (k + 2) 0 + 16777216 * getD bytes (k + 3) 0
+
+abbrev pub WindowReadsLowestFirst : Type 0
+WindowReadsLowestFirst = (bytes : List ℕ) (i : ℕ) → i < length bytes / 4 → getD (wordsOf bytes) i 0 ≡ fourFrom bytes (4 * i)
+
 -- P4: 1 first, then 2 for a length that is not a multiple of 16, then the answer of the numbers
 abbrev pub WindowTakesSixteenARow : Type 0
 WindowTakesSixteenARow =

@@ -8,11 +8,13 @@ use Rattle.model.specs.Lists.{All}
 use Rattle.model.specs.Jobs.{Job}
 use Rattle.promise.specs.declared.Desk.{Desk}
 use Rattle.promise.specs.declared.Given.{Given}
+use Rattle.promise.specs.declared.Held.{Held}
 use Rattle.promise.specs.Answers.{yes, refusal}
 use Rattle.promise.specs.Desk.{Sound}
 use Rattle.promise.specs.DeskCalls.{openOf, admitOf, withdrawOf, lookOf, runOf, admitAnswer, HeldAs}
 use Rattle.promise.specs.History.{Call, deskAfter}
 use Rattle.promise.specs.DeskClaims.{Seated}
+use Rattle.promise.specs.Claims.{fourFrom}
 use Rattle.promise.specs.Window.{wordAt, pack, Packs}
 use Rattle.promise.specs.DeskWindow.{deskNumbers, deskBytes, deskRead, openBytesAnswer, recordOpened, OpenBytesPromise, admitBytesAnswer, recordAdmitted, AdmitBytesPromise, withdrawBytesAnswer, withdrawPacked, recordWithdrawn, WithdrawBytesPromise, lookBytesAnswer, figuresTold, LookBytesPromise, runBytesAnswer, recordRun, pairsTold, RunBytesPromise, recordAfter}
 
@@ -22,6 +24,21 @@ RecordsAreReadBack =
     (desk : Desk) → Seated desk
     → (deskRead (deskBytes desk) ≡ desk) × (length (deskBytes desk) ≡ 776)
     × (All (λ n. n < 4294967296) (deskNumbers desk) → All (λ b. b < 256) (deskBytes desk))
+
+-- where each number of a record stands: machines, clock, then six for each seat
+pub record SeatLaidOut (bytes : List ℕ) (i : ℕ) (h : Held) : Type 0 where
+  pub number : fourFrom bytes (24 * i + 8) ≡ h .number
+  pub work : fourFrom bytes (24 * i + 12) ≡ h .work
+  pub left : fourFrom bytes (24 * i + 16) ≡ h .left
+  pub deadline : fourFrom bytes (24 * i + 20) ≡ h .deadline
+  pub bound : fourFrom bytes (24 * i + 24) ≡ h .bound
+  pub slots : fourFrom bytes (24 * i + 28) ≡ h .slots
+
+abbrev pub RecordsAreLaidOut : Type 0
+RecordsAreLaidOut =
+    (desk : Desk) → Seated desk
+    → (fourFrom (deskBytes desk) 0 ≡ desk .machines) × (fourFrom (deskBytes desk) 4 ≡ desk .clock)
+    × ((i : ℕ) (none : Held) → i < 32 → SeatLaidOut (deskBytes desk) i (getD (desk .seats) i none))
 
 -- any 776 bytes are a record of 32 seats, and are written as they were read
 abbrev pub RecordsAreWrittenBack : Type 0
