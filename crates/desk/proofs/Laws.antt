@@ -21,18 +21,18 @@ use Rattle.promise.specs.declared.Answer.{Answer}
 use Rattle.promise.specs.declared.Held.{Held}
 use Rattle.promise.specs.declared.Desk.{Desk}
 use Rattle.promise.specs.Answers.{yes, refusal, fault, first}
-use Rattle.promise.specs.Rows.{Field, the-number, the-work, the-deadline, the-bound, Window, least, greatest, fieldOf, fieldNumber, OutOfRange, fieldFault, fieldsFault}
+use Rattle.promise.specs.Rows.{Field, the-number, the-work, the-deadline, the-bound, DueRange, least, greatest, fieldOf, fieldNumber, OutOfRange, fieldFault, fieldsFault}
 use Rattle.promise.specs.Desk.{heldOf, table, deskOf, toPlan, leeway, Sound, SoundSeat}
-use Rattle.promise.specs.DeskCalls.{isHeld, seatOf, without, seated, newHeld, withNew, admitWindow, deskFit, soundFault, admitAnswer, admitOf, findAnswer, withdrawOf, lookOf}
+use Rattle.promise.specs.DeskCalls.{isHeld, seatOf, without, seated, newHeld, withNew, jobsWith, admitDues, deskFit, soundFault, admitAnswer, admitOf, findAnswer, withdrawOf, lookOf}
 use Rattle.promise.proofs.Ladder.{Tells, holds, fails, tells-lt, tells-or, same-number, first-zero, first-stop, first-past, first-first, first-zero-front}
 use Rattle.promise.proofs.DeskKept.{in-range}
-use Rattle.promise.proofs.DeskSeats.{seated-perm, length-seated}
+use Rattle.promise.proofs.DeskSeats.{held-first, seated-perm, length-seated}
 use Rattle.promise.proofs.Bounds.{boundary-le}
 use Rattle.promise.proofs.DeskBounds.{Light, light-in-range, held-light}
 use Rattle.seats.specs.declared.Found.{Found}
 use Rattle.seats.specs.declared.Found.the-variants.{Nothing, At}
 use Rattle.seats.specs.Seats.{findIn}
-use Rattle.seats.proofs.Laws.{find-held, held-first}
+use Rattle.seats.proofs.Laws.{find-held}
 use Rattle.desk.specs.Calls.{seatFault, admitFault, Near}
 use Rattle.desk.proofs.Figures.{all-nth}
 
@@ -60,10 +60,8 @@ module _ (desk : Desk) (n : ℕ) (a : Answer) (e : a ≡ findAnswer desk n) wher
     look-answered l el = rw (← e, eq-eqb (a .number) 0 z, ← same, ← el) refl
 
 -- the search among the first seats is one among the held jobs
-searched : (desk : Desk) → desk .seats ≡ table (heldOf desk) → (k : ℕ) → k ≡ length (heldOf desk) → (n : ℕ) (o : Found)
-    → o ≡ findIn n 0 (take k (desk .seats)) → o ≡ findIn n 0 (heldOf desk)
-searched desk zeros k count n o eo =
-    eo ∙ ap (λ (l : ℕ). findIn n 0 (take l (desk .seats))) count ∙ ap (findIn n 0) (held-first desk zeros)
+searched : (desk : Desk) (k : ℕ) → k ≡ length (heldOf desk) → (n : ℕ) (o : Found) → o ≡ findIn n 0 (take k (desk .seats)) → o ≡ findIn n 0 (heldOf desk)
+searched desk k count n o eo = eo ∙ ap (λ (l : ℕ). findIn n 0 (take l (desk .seats))) count ∙ ap (findIn n 0) (held-first desk)
 
 -- the search, on a desk that passes the sound test
 module _ (desk : Desk) (f : Answer) (told : f ≡ soundFault desk) where
@@ -73,7 +71,7 @@ module _ (desk : Desk) (f : Answer) (told : f ≡ soundFault desk) where
 
   module _ (clear : f ≡ yes) (s : Sound desk) (k : ℕ) (count : k ≡ length (heldOf desk)) (n : ℕ) (o : Found) (eo : o ≡ findIn n 0 (take k (desk .seats))) where
     among : o ≡ findIn n 0 (heldOf desk)
-    among = searched desk (s .zeros) k count n o eo
+    among = searched desk k count n o eo
 
     pub not-found : o ≡ Nothing → refusal 10 0 0 ≡ findAnswer desk n
     unfolding findAnswer
@@ -105,9 +103,9 @@ module _ (desk : Desk) (f : Answer) (told : f ≡ soundFault desk) where
       found-sound d = rw (held-there d) (all-nth (SoundSeat (desk .clock)) (heldOf desk) i d (s .seats) found-early)
 
 -- a number that is held, a full table
-module _ (desk : Desk) (zeros : desk .seats ≡ table (heldOf desk)) (k : ℕ) (count : k ≡ length (heldOf desk)) (n : ℕ) (o : Found) (eo : o ≡ findIn n 0 (take k (desk .seats))) where
+module _ (desk : Desk) (k : ℕ) (count : k ≡ length (heldOf desk)) (n : ℕ) (o : Found) (eo : o ≡ findIn n 0 (take k (desk .seats))) where
   looked : o ≡ findIn n 0 (heldOf desk)
-  looked = searched desk zeros k count n o eo
+  looked = searched desk k count n o eo
 
   pub held-fault : (i : ℕ) → o ≡ At i → refusal 5 0 0 ≡ seatFault desk n
   unfolding seatFault
@@ -132,7 +130,7 @@ near machines jobs (Short place amount) a e =
     boundary-le 168 jobs (All-map (λ j r. r .1) jobs a) place (least-short-is-named machines jobs (record { place = place; amount = amount }) .0 (sym e) .boundary)
 
 -- fields that are not refused are in range
-module _ (w : Window) (j : Job) where
+module _ (w : DueRange) (j : Job) where
   ranged : (g : Field) → (fieldFault w 0 g j) .number ≡ 0 → (least w g ≤ fieldOf g j) × (fieldOf g j ≤ greatest w g)
   unfolding fieldFault
   ranged g z = go (tells-or (tells-lt (fieldOf g j) (least w g)) (tells-lt (greatest w g) (fieldOf g j))) z
@@ -150,17 +148,14 @@ module _ (w : Window) (j : Job) where
 
 -- Admit
 module _ (desk : Desk) (j : Job) where
-  pub asked : List Job
-  asked = toPlan (desk .machines) (desk .clock) (withNew desk j)
-
   fit-fault : Answer
-  fit-fault = deskFit (desk .clock) (leastShort (desk .machines) asked)
+  fit-fault = deskFit (desk .clock) (leastShort (desk .machines) (jobsWith desk j))
 
   -- its answer: the tests before the walk, then the walk
   admit-splits : admitAnswer desk j ≡ first (admitFault desk j) fit-fault
-  unfolding admitAnswer admitFault seatFault fit-fault asked
+  unfolding admitAnswer admitFault seatFault fit-fault
   admit-splits =
-      let fields = fieldsFault (admitWindow (desk .clock)) 0 j in
+      let fields = fieldsFault (admitDues (desk .clock)) 0 j in
       let held = fault (isHeld (j .number) (heldOf desk)) (refusal 5 0 0) in
       let full = fault (leb 32 (length (heldOf desk))) (refusal 8 0 0) in
       sym
@@ -186,30 +181,30 @@ module _ (desk : Desk) (j : Job) where
       unfolding admitFault
       sound-clear = first-zero-front (soundFault desk) _ (sym (same-number told) ∙ zero)
 
-      after-sound : (first (fieldsFault (admitWindow (desk .clock)) 0 j) (seatFault desk (j .number))) .number ≡ 0
+      after-sound : (first (fieldsFault (admitDues (desk .clock)) 0 j) (seatFault desk (j .number))) .number ≡ 0
       unfolding admitFault
       after-sound = first-zero (soundFault desk) _ (sym (same-number told) ∙ zero)
 
-      fields-clear : (fieldsFault (admitWindow (desk .clock)) 0 j) .number ≡ 0
-      fields-clear = first-zero-front (fieldsFault (admitWindow (desk .clock)) 0 j) (seatFault desk (j .number)) after-sound
+      fields-clear : (fieldsFault (admitDues (desk .clock)) 0 j) .number ≡ 0
+      fields-clear = first-zero-front (fieldsFault (admitDues (desk .clock)) 0 j) (seatFault desk (j .number)) after-sound
 
       pub free : length (heldOf desk) < 32
       unfolding seatFault
-      free = go (leb 32 (length (heldOf desk))) refl (first-zero (fault (isHeld (j .number) (heldOf desk)) (refusal 5 0 0)) _ (first-zero (fieldsFault (admitWindow (desk .clock)) 0 j) (seatFault desk (j .number)) after-sound))
+      free = go (leb 32 (length (heldOf desk))) refl (first-zero (fault (isHeld (j .number) (heldOf desk)) (refusal 5 0 0)) _ (first-zero (fieldsFault (admitDues (desk .clock)) 0 j) (seatFault desk (j .number)) after-sound))
         where
           go : (t : Bool) → leb 32 (length (heldOf desk)) ≡ t → (fault t (refusal 8 0 0)) .number ≡ 0 → length (heldOf desk) < 32
           go true e z = absurd (omega arith)
           go false e z = omega (arith, leb-false 32 (length (heldOf desk)) e)
 
-      pub fitted : (x : Answer) (fit : Fit) → asShort fit ≡ leastShort (desk .machines) asked → x ≡ deskFit (desk .clock) (asShort fit) → x ≡ admitAnswer desk j
+      pub fitted : (x : Answer) (fit : Fit) → asShort fit ≡ leastShort (desk .machines) (jobsWith desk j) → x ≡ deskFit (desk .clock) (asShort fit) → x ≡ admitAnswer desk j
       unfolding fit-fault
       fitted x fit e ex = first-past f (admitFault desk j) fit-fault x told zero (ex ∙ ap (deskFit (desk .clock)) e) ∙ sym admit-splits
 
       -- the new job and the held ones can be walked
-      pub asked-in-range : Sound desk → All InRange asked
-      unfolding asked withNew newHeld admitWindow
+      pub asked-in-range : Sound desk → All InRange (jobsWith desk j)
+      unfolding withNew newHeld admitDues
       asked-in-range s =
-          let w = admitWindow (desk .clock) in
+          let w = admitDues (desk .clock) in
           let fs = fields-ranged w j fields-clear in
           light-in-range (desk .machines) (desk .clock) (withNew desk j)
           (perm-all (Light (desk .clock)) (seated-perm (newHeld (desk .clock) j) (heldOf desk))
@@ -217,8 +212,8 @@ module _ (desk : Desk) (j : Job) where
 
       -- the desk with the new job, loaded for the walk
       pub asked-loaded : (n : ℕ) → n ≡ length (heldOf desk) → (next : Desk) → next ≡ deskOf (desk .machines) (desk .clock) (withNew desk j)
-          → toPlan (next .machines) (next .clock) (take (n + 1) (next .seats)) ≡ asked
-      unfolding asked withNew deskOf table
+          → toPlan (next .machines) (next .clock) (take (n + 1) (next .seats)) ≡ (jobsWith desk j)
+      unfolding withNew deskOf table
       asked-loaded n count next made =
           let hs = seated (newHeld (desk .clock) j) (heldOf desk) in
           let k : n + 1 ≡ length hs = omega (arith, length-seated (newHeld (desk .clock) j) (heldOf desk)) in

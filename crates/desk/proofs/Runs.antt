@@ -22,10 +22,9 @@ use Rattle.promise.specs.Desk.{heldOf, deskOf, toPlan, jobsFor, column, Sound}
 use Rattle.promise.specs.DeskCalls.{soundFault, pairs, givenOf, afterRun, runAnswer, runOf}
 use Rattle.promise.specs.DeskClaims.{Seated}
 use Rattle.promise.proofs.Ladder.{same-number, first-zero-front}
-use Rattle.promise.proofs.DeskSeats.{to-plan-distinct}
+use Rattle.promise.proofs.DeskSeats.{held-first, to-plan-distinct}
 use Rattle.promise.proofs.DeskTable.{run-yes}
 use Rattle.promise.proofs.DeskBounds.{light-in-range, held-light}
-use Rattle.seats.proofs.Laws.{held-first}
 use Rattle.slot.specs.Slot.{fillDown, givenTo, afterShares}
 use Rattle.slot.proofs.Column.{slot-pairs, slot-after}
 use Rattle.desk.proofs.Figures.{good}
@@ -56,7 +55,7 @@ module _ (desk : Desk) (a : Answer) (e : a ≡ runAnswer desk) where
 
     module _ (n : ℕ) (count : n ≡ length (heldOf desk)) where
       held-taken : take n (desk .seats) ≡ heldOf desk
-      held-taken = ap (λ (k : ℕ). take k (desk .seats)) count ∙ held-first desk (run-sound .zeros)
+      held-taken = ap (λ (k : ℕ). take k (desk .seats)) count ∙ held-first desk
 
       module _ (list : Jobs) (loaded : asJobs n list ≡ toPlan (desk .machines) (desk .clock) (take n (desk .seats))) where
         planned : asJobs n list ≡ jobsFor desk

@@ -8,7 +8,7 @@ use Rattle.promise.specs.declared.Desk.{Desk}
 use Rattle.promise.specs.Answers.{refusal, fault, first}
 use Rattle.promise.specs.Rows.{fieldsFault}
 use Rattle.promise.specs.Desk.{heldOf}
-use Rattle.promise.specs.DeskCalls.{admitWindow, isHeld, soundFault}
+use Rattle.promise.specs.DeskCalls.{admitDues, isHeld, soundFault}
 use Rattle.walk.specs.declared.Fit.{Fit}
 use Rattle.walk.specs.declared.Fit.the-variants.{Fits, Short}
 
@@ -18,7 +18,7 @@ seatFault desk n = first (fault (isHeld n (heldOf desk)) (refusal 5 0 0)) (fault
 
 -- Admit's tests before the walk: 12, 4, 5, 8
 unfoldable pub admitFault : Desk → Job → Answer
-admitFault desk j = first (soundFault desk) (first (fieldsFault (admitWindow (desk .clock)) 0 j) (seatFault desk (j .number)))
+admitFault desk j = first (soundFault desk) (first (fieldsFault (admitDues (desk .clock)) 0 j) (seatFault desk (j .number)))
 
 -- a short boundary is no later than a deadline can be
 abbrev pub Near : Fit → Type 0

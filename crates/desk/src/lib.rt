@@ -16,7 +16,7 @@ ghost use Prim.Native.Nat.{_+_, _≤_, _<_, min};
 ghost use lib.ListN.{length};
 ghost use Rattle.figures.specs.Jobs.{asJob};
 ghost use Rattle.walk.specs.Walk.{asShort};
-ghost use Rattle.promise.specs.Desk.{heldOf, table, deskOf, leeway};
+ghost use Rattle.promise.specs.Desk.{heldOf, deskOf, leeway};
 ghost use Rattle.promise.specs.DeskCalls.{newHeld, deskFit, soundFault, openOf, admitOf, withdrawOf, lookOf, runAnswer, runOf};
 ghost use Rattle.desk.specs.Calls.{seatFault, admitFault, Near};
 
@@ -36,20 +36,15 @@ pub fn empty(machines: u32) -> Desk
 pub fn open(machines: u32) -> Desked
     ensures { λ r. ⌜ r ≡ openOf machines ⌝ }
 {
-    if machines < 1 {
+    let count = rows::count_fault(machines);
+    if count.number != 0 {
         return Desked {
-            answer: rows::refuse(1, 0, 0),
-            desk: empty(1),
-        };
-    }
-    if 64 < machines {
-        return Desked {
-            answer: rows::refuse(1, 0, 0),
+            answer: count,
             desk: empty(1),
         };
     }
     Desked {
-        answer: rows::accept(),
+        answer: count,
         desk: empty(machines),
     }
 }
@@ -77,7 +72,7 @@ pub fn last_due(clock: u32) -> u32
 
 // A 5 if the number is held, an 8 if all seats are.
 pub fn seat_fault(desk: Desk, n: usize, number: u32) -> Answer
-    requires { ⌜ (n ≤ 32) × (n ≡ length (heldOf desk)) × (desk .seats ≡ table (heldOf desk)) ⌝ }
+    requires { ⌜ (n ≤ 32) × (n ≡ length (heldOf desk)) ⌝ }
     ensures { λ r. ⌜ r ≡ seatFault desk number ⌝ }
 {
     if let Found::At(_) = seats::find(desk, n, number) {

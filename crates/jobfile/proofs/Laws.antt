@@ -13,12 +13,11 @@ use lib.Seq.{drop-cons, set-out, take-all}
 use borrow.Author.Tests.{leb-true, le-leb, lt-leb, eq-eqb, ne-eqb}
 use Rattle.model.proofs.Lists.{and-true}
 use Rattle.promise.specs.declared.LineKind.{LineKind}
-use Rattle.promise.specs.declared.LineKind.the-variants.{LabelLine}
 use Rattle.promise.specs.Texts.{allWithin, isNumber, isLabel, valueFrom, readNumber, newline}
-use Rattle.promise.specs.JobFile.{key, afterKey, numberTold, labelTold, told, toldBy, notRead}
+use Rattle.promise.specs.JobFile.{afterKey, numberTold, labelTold, notRead}
 use Rattle.promise.specs.Answers.{yes, refusal}
 use Rattle.jobfile.specs.declared.Kept.{Kept}
-use Rattle.jobfile.specs.Reader.{lineEnd, given, startsWith, numberAfter, labelAfter, keepNumber, groupsIn, mayEnd, finished}
+use Rattle.jobfile.specs.Reader.{lineEnd, given, startsWith, keepNumber, groupsIn, mayEnd, finished}
 
 -- the end of a line, from index i on
 module _ (bytes : List ℕ) (i : ℕ) where
@@ -111,24 +110,6 @@ key-missing key line e = go (afterKey key line) e
     go : (o : Option (List ℕ)) → given o ≡ false → o ≡ none
     go none e = refl
     go (some text) e = absurd (let z : _≡_ {A = ℕ} 0 1 = cc in omega arith)
-
--- what a line tells, by what stands after its key
-module _ (kind : LineKind) (line : List ℕ) where
-  pub number-told : ((text : List ℕ) → numberTold (readNumber text) ≡ told kind (some text)) → numberAfter (afterKey (key kind) line) ≡ toldBy kind line
-  unfolding toldBy
-  number-told h = go (afterKey (key kind) line)
-    where
-      go : (o : Option (List ℕ)) → numberAfter o ≡ told kind o
-      go none = refl
-      go (some text) = h text
-
-pub label-told : (line : List ℕ) → labelAfter (afterKey (key LabelLine) line) ≡ toldBy LabelLine line
-unfolding toldBy
-label-told line = go (afterKey (key LabelLine) line)
-  where
-    go : (o : Option (List ℕ)) → labelAfter o ≡ told LabelLine o
-    go none = refl
-    go (some text) = refl
 
 -- a number, test by test
 module _ (text : List ℕ) where

@@ -15,7 +15,7 @@ use borrow.Author.Tests.{eqb-true, eqb-false, lt-ltb, le-ltb}
 use Rattle.promise.specs.declared.LineKind.{LineKind}
 use Rattle.promise.specs.declared.LineKind.the-variants.{MachinesLine, JobLine, WorkLine, DeadlineLine, BoundLine, LabelLine}
 use Rattle.promise.specs.Texts.{Lines, cut, padded, newline}
-use Rattle.promise.specs.JobFile.{toldBy, next, notRead, OneLine, Said, bad, says, andThen, atEnd, linesIn, fileSays, readingFrom, readingSaid, readingOf}
+use Rattle.promise.specs.JobFile.{toldBy, following, notRead, OneLine, Said, bad, says, andThen, atEnd, linesIn, fileSays, readingFrom, readingSaid, readingOf}
 use Rattle.promise.specs.Answers.{refusal}
 use Rattle.promise.proofs.Lines.{cut-line, cut-rest}
 use Rattle.jobfile.specs.declared.Kept.{Kept}
@@ -173,21 +173,21 @@ module _ (bytes : List ℕ) (kept : Kept) (kind : LineKind) (ℓ at : ℕ) (now 
         ∙ ap (put (now .numbers)) (rest-bad kind ℓ (getD bytes at 0) (drop (suc at) bytes))))
 
     module _ (j : Judged) (hj : toldAs j ≡ toldBy kind (take (e - at) (drop at bytes))) where
-      one-line : e < length bytes → fileSays bytes ≡ put (now .numbers) (andThen (toldAs j) ℓ (linesIn (next kind) (suc ℓ) (cut (drop (e + 1) bytes))))
+      one-line : e < length bytes → fileSays bytes ≡ put (now .numbers) (andThen (toldAs j) ℓ (linesIn (following kind) (suc ℓ) (cut (drop (e + 1) bytes))))
       one-line h = rw hj (now .so-far ∙ ap (λ (c : Lines). put (now .numbers) (linesIn kind ℓ c)) (line-cut bytes at e he h))
 
       pub read-bad : isBad j ≡ true → notRead (refusal 13 ℓ 0) ≡ readingSaid (fileSays bytes)
       read-bad b = go (decLt e (length bytes))
         where
           go : Dec (e < length bytes) → notRead (refusal 13 ℓ 0) ≡ readingSaid (fileSays bytes)
-          go (yes h) = sym (ap readingSaid (one-line h ∙ put-bad (now .numbers) j ℓ (linesIn (next kind) (suc ℓ) (cut (drop (e + 1) bytes))) b))
+          go (yes h) = sym (ap readingSaid (one-line h ∙ put-bad (now .numbers) j ℓ (linesIn (following kind) (suc ℓ) (cut (drop (e + 1) bytes))) b))
           go (no h) = read-unended (omega arith)
 
-      pub read-line : e < length bytes → isBad j ≡ false → Reads bytes (keepIn kept j) (next kind) (ℓ + 1) (e + 1)
+      pub read-line : e < length bytes → isBad j ≡ false → Reads bytes (keepIn kept j) (following kind) (ℓ + 1) (e + 1)
       read-line h b = record {
         numbers = heard (now .numbers) j;
         are = ap (λ (k : Kept). keepIn k j) (now .are) ∙ keep-heard (now .numbers) j;
-        so-far = rw (add-one ℓ) (one-line h ∙ put-heard (now .numbers) j ℓ (linesIn (next kind) (suc ℓ) (cut (drop (e + 1) bytes))) b);
+        so-far = rw (add-one ℓ) (one-line h ∙ put-heard (now .numbers) j ℓ (linesIn (following kind) (suc ℓ) (cut (drop (e + 1) bytes))) b);
       }
 
 -- 14 before 13

@@ -9,8 +9,8 @@ use Rattle.promise.specs.declared.Reading.{Reading}
 use Rattle.promise.specs.declared.LineKind.{LineKind}
 use Rattle.promise.specs.declared.LineKind.the-variants.{MachinesLine, JobLine, WorkLine, DeadlineLine, BoundLine, LabelLine}
 use Rattle.promise.specs.Answers.{yes, refusal}
-use Rattle.promise.specs.Texts.{readNumber, newline}
-use Rattle.promise.specs.JobFile.{afterKey, numberTold, labelTold, notRead}
+use Rattle.promise.specs.Texts.{newline}
+use Rattle.promise.specs.JobFile.{afterKey, notRead}
 use Rattle.jobfile.specs.declared.Judged.{Judged}
 use Rattle.jobfile.specs.declared.Judged.the-variants.{Bad, Label, Number}
 use Rattle.jobfile.specs.declared.Kept.{Kept}
@@ -42,15 +42,6 @@ given (some text) = true
 
 abbrev pub startsWith : List ℕ → List ℕ → Bool
 startsWith key line = given (afterKey key line)
-
--- what stands after the key of a line, read as a number or as a label
-abbrev pub numberAfter : Option (List ℕ) → Option (List ℕ)
-numberAfter none = none
-numberAfter (some text) = numberTold (readNumber text)
-
-abbrev pub labelAfter : Option (List ℕ) → Option (List ℕ)
-labelAfter none = none
-labelAfter (some text) = labelTold text
 
 -- one line more: the first number is the machine count, the next go to the rows, and those past them are only counted
 abbrev pub keepNumber : Kept → ℕ → Kept

@@ -8,8 +8,8 @@ ghost use Prim.Native.Nat.{_≤_};
 ghost use lib.ListN.{length};
 ghost use Rattle.promise.specs.Answers.{refusal};
 ghost use Rattle.promise.specs.Texts.{allWithin, valueFrom, readNumber};
-ghost use Rattle.promise.specs.JobFile.{afterKey, numberTold, labelTold, toldBy, next, notRead, fileSays, readingSaid, ReadingPromise};
-ghost use Rattle.jobfile.specs.Reader.{toldAs, isBad, lineEnd, startsWith, numberAfter, labelAfter, keepNumber, keepIn, groupsIn, mayEnd, finished};
+ghost use Rattle.promise.specs.JobFile.{afterKey, numberTold, labelTold, numberAfter, labelAfter, toldBy, following, notRead, fileSays, readingSaid, ReadingPromise};
+ghost use Rattle.jobfile.specs.Reader.{toldAs, isBad, lineEnd, startsWith, keepNumber, keepIn, groupsIn, mayEnd, finished};
 
 // What a line tells.
 pub enum Judged {
@@ -156,7 +156,7 @@ fn judge(kind: LineKind, line: &[u8]) -> Judged
 }
 
 fn following(kind: LineKind) -> LineKind
-    ensures { λ r. ⌜ r ≡ next kind ⌝ }
+    ensures { λ r. ⌜ r ≡ following kind ⌝ }
 {
     match kind {
         LineKind::MachinesLine => LineKind::JobLine,

@@ -15,14 +15,14 @@ use Rattle.promise.specs.Order.{FirstOf, GivenBy}
 use Rattle.promise.specs.Rows.{Field, the-number, the-work, the-deadline, the-bound}
 use Rattle.promise.specs.Desk.{heldOf, toPlan, Sound}
 use Rattle.promise.specs.DeskCalls.{deskFit, withNew, admitAnswer, admitOf, findAnswer, withdrawOf, lookOf, runAnswer, runOf, DeskTest, not-sound, asked, held-already, full, no-fit, not-held, at-the-end, DeskHolds, deskAnswerOf, admitOrder, findOrder, runOrder, HeldAs}
-use Rattle.promise.specs.History.{Call, admit, withdraw, look, run, answerOf, happens}
+use Rattle.promise.specs.History.{Call, admit, withdraw, look, run, eventAnswer, happens}
 use Rattle.promise.proofs.Ladder.{same-number}
 use Rattle.promise.proofs.DeskTable.{tells-held, really, desk-answers-by-the-table}
 use Rattle.promise.proofs.DeskSeats.{sound-seated}
 
 -- tests whose answers have other numbers than the one given do not hold
-module _ {A : Type 0} (Holds : A → Type 0) (answerOf : A → Answer) (a : Answer) where
-  front-passes : (xs ys : List A) → ((x : A) → FirstOf Holds (xs ++ ys) x → a ≡ answerOf x) → All (λ x. (answerOf x) .number ≢ a .number) xs
+module _ {A : Type 0} (Holds : A → Type 0) (eventAnswer : A → Answer) (a : Answer) where
+  front-passes : (xs ys : List A) → ((x : A) → FirstOf Holds (xs ++ ys) x → a ≡ eventAnswer x) → All (λ x. (eventAnswer x) .number ≢ a .number) xs
       → All (λ x. ¬ Holds x) xs
   front-passes [] ys told d = tt
   front-passes (x ∷ xs) ys told d = (fails, front-passes xs ys later (d .1))
@@ -30,7 +30,7 @@ module _ {A : Type 0} (Holds : A → Type 0) (answerOf : A → Answer) (a : Answ
       fails : ¬ Holds x
       fails h = d .0 (same-number (sym (told x (record { earlier = []; later = xs ++ ys; split = refl; holds = h; none-earlier = tt }))))
 
-      later : (y : A) → FirstOf Holds (xs ++ ys) y → a ≡ answerOf y
+      later : (y : A) → FirstOf Holds (xs ++ ys) y → a ≡ eventAnswer y
       later y f =
           told y
           (record {
@@ -77,7 +77,7 @@ module _ (desk : Desk) where
     never-twelve : (j : Job) (order : List DeskTest) (a : Answer) → ByTable j order a → a .number ≢ 12
     never-twelve j order a g e = let x = g .exactly 12 (omega arith) .0 e in not-twelve j (x .0) (x .1 .holds) (x .2)
 
-    pub call-not-twelve : (call : Call) → (answerOf (happens desk call)) .number ≢ 12
+    pub call-not-twelve : (call : Call) → (eventAnswer (happens desk call)) .number ≢ 12
     unfolding admitOf withdrawOf lookOf runOf
     call-not-twelve (admit j) = never-twelve j admitOrder (admitAnswer desk j) (admit-table j)
     call-not-twelve (withdraw n) = never-twelve noJob (findOrder n) (findAnswer desk n) (find-table n)

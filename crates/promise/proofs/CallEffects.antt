@@ -19,7 +19,7 @@ use Rattle.promise.specs.declared.Answer.{Answer}
 use Rattle.promise.specs.declared.Desk.{Desk}
 use Rattle.promise.specs.Rows.{Field, fieldOf, least, the-number, the-work}
 use Rattle.promise.specs.Desk.{heldOf, deskOf, asPlanned, toPlan, jobsFor, Sound, column}
-use Rattle.promise.specs.DeskCalls.{HeldAs, admitWindow, newHeld, withNew, admitAnswer, admitOf, findAnswer, withdrawOf, without, runAnswer, runOf}
+use Rattle.promise.specs.DeskCalls.{HeldAs, admitDues, newHeld, withNew, admitAnswer, admitOf, findAnswer, withdrawOf, without, runAnswer, runOf}
 use Rattle.promise.specs.DeskClaims.{HandsBack}
 use Rattle.promise.specs.History.{Call, admit, withdraw, look, run, happens, returned, Ledger, answeredFor, remaining, entered}
 use Rattle.promise.proofs.DeskKept.{refusal-hands-the-desk-back, plan-valid, in-range}
@@ -60,9 +60,9 @@ module _ (desk : Desk) (s : Sound desk) where
     unfolding admitOf
     admitted-desk = rw e
 
-    in-the-window : (f : Field) → least (admitWindow (desk .clock)) f ≤ fieldOf f j
-    unfolding admitWindow
-    in-the-window f = in-range (admitWindow (desk .clock)) f j (admit-passes desk s j (inl e) .0 f) .0
+    in-the-window : (f : Field) → least (admitDues (desk .clock)) f ≤ fieldOf f j
+    unfolding admitDues
+    in-the-window f = in-range (admitDues (desk .clock)) f j (admit-passes desk s j (inl e) .0 f) .0
 
     new-numbered : All (λ h. 1 ≤ h .number) (withNew desk j)
     unfolding withNew newHeld

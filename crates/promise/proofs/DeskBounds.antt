@@ -17,11 +17,10 @@ use Rattle.promise.specs.declared.Held.{Held}
 use Rattle.promise.specs.declared.Desk.{Desk}
 use Rattle.promise.specs.Rows.{Field, the-work, the-deadline, the-bound}
 use Rattle.promise.specs.Desk.{heldOf, asPlanned, toPlan, SoundSeat, Sound}
-use Rattle.promise.specs.DeskCalls.{seatOf, admitWindow, newHeld, withNew, asked, DeskHolds}
+use Rattle.promise.specs.DeskCalls.{seatOf, admitDues, newHeld, withNew, jobsWith, asked, DeskHolds}
 use Rattle.promise.proofs.Sound.{InRange}
 use Rattle.promise.proofs.Bounds.{forced-le, boundary-le, shortage-le}
 use Rattle.promise.proofs.DeskSeats.{seated-perm, length-seated}
-use Rattle.promise.proofs.DeskTable.{asks}
 use Rattle.promise.proofs.DeskKept.{in-range}
 
 -- jobs that the walk can take
@@ -45,22 +44,22 @@ to-plan-length machines clock hs = length-map (map (asPlanned clock) hs) _ ∙ l
 
 -- and so is the new job, once its fields are in range
 module _ (desk : Desk) (s : Sound desk) (j : Job) (f : (g : Field) → ¬ DeskHolds desk j (asked g)) where
-  asked-in-range : All InRange (asks desk j)
-  unfolding withNew newHeld admitWindow
+  asked-in-range : All InRange (jobsWith desk j)
+  unfolding withNew newHeld admitDues
   asked-in-range =
-      let w = admitWindow (desk .clock) in
+      let w = admitDues (desk .clock) in
       light-in-range (desk .machines) (desk .clock) (withNew desk j)
       (perm-all (Light (desk .clock)) (seated-perm (newHeld (desk .clock) j) (heldOf desk))
       (omega (arith, in-range w the-work j (f the-work), in-range w the-deadline j (f the-deadline), in-range w the-bound j (f the-bound)), held-light desk s))
 
   -- 33 jobs of 60,000 hours
-  pub seven-bounds : (o : Short) → leastShort (desk .machines) (asks desk j) ≡ some o → (o .place ≤ 168) × (o .amount ≤ 1980000)
+  pub seven-bounds : (o : Short) → leastShort (desk .machines) (jobsWith desk j) ≡ some o → (o .place ≤ 168) × (o .amount ≤ 1980000)
   unfolding withNew
   seven-bounds o e =
-      let l = least-short-is-named (desk .machines) (asks desk j) o .0 e in
-      let works = forced-le (asks desk j) (o .place) asked-in-range in (
-        boundary-le 168 (asks desk j) (All-map (λ i r. r .1) (asks desk j) asked-in-range) (o .place) (l .boundary),
-        omega (arith, shortage-le (desk .machines) (asks desk j) o l, works, to-plan-length (desk .machines) (desk .clock) (withNew desk j), length-seated (newHeld (desk .clock) j) (heldOf desk), s .few),
+      let l = least-short-is-named (desk .machines) (jobsWith desk j) o .0 e in
+      let works = forced-le (jobsWith desk j) (o .place) asked-in-range in (
+        boundary-le 168 (jobsWith desk j) (All-map (λ i r. r .1) (jobsWith desk j) asked-in-range) (o .place) (l .boundary),
+        omega (arith, shortage-le (desk .machines) (jobsWith desk j) o l, works, to-plan-length (desk .machines) (desk .clock) (withNew desk j), length-seated (newHeld (desk .clock) j) (heldOf desk), s .few),
       )
 
 -- a remaining work, or 0 for a number that is not held

@@ -26,9 +26,9 @@ use Rattle.promise.specs.declared.Answer.{Answer}
 use Rattle.promise.specs.declared.Held.{Held}
 use Rattle.promise.specs.declared.Desk.{Desk}
 use Rattle.promise.specs.Answers.{refusal, fault}
-use Rattle.promise.specs.Rows.{Field, the-number, the-work, the-deadline, the-bound, fieldOf, Window, least, greatest, OutOfRange, countFault}
+use Rattle.promise.specs.Rows.{Field, the-number, the-work, the-deadline, the-bound, fieldOf, DueRange, least, greatest, OutOfRange, countFault}
 use Rattle.promise.specs.Desk.{heldOf, deskOf, asPlanned, toPlan, jobsFor, SoundSeat, Sound, column}
-use Rattle.promise.specs.DeskCalls.{openOf, admitWindow, newHeld, withNew, admitAnswer, handed, admitOf, findAnswer, without, withdrawOf, lookOf, runAnswer, lowered, afterRun, runOf, asked, HeldAs, DeskHolds, figure, pairs}
+use Rattle.promise.specs.DeskCalls.{openOf, admitDues, newHeld, withNew, admitAnswer, handed, admitOf, findAnswer, without, withdrawOf, lookOf, runAnswer, lowered, afterRun, runOf, asked, HeldAs, DeskHolds, figure, pairs}
 use Rattle.promise.specs.DeskClaims.{SoundnessIsKept, RefusalHandsTheDeskBack}
 use Rattle.promise.proofs.Ladder.{Tells, fails, tells-lt, tells-or}
 use Rattle.promise.proofs.DeskTable.{Admissible, admit-yes, run-yes}
@@ -145,7 +145,7 @@ module _ (desk : Desk) (s : Sound desk) where
           (omega (arith, length-after (column desk) (heldOf desk), s .few)) (rising-after (column desk) (heldOf desk) (s .rising)) after-seats after-room
 
 -- Admit
-pub in-range : (w : Window) (f : Field) (j : Job) → ¬ OutOfRange w f j → (least w f ≤ fieldOf f j) × (fieldOf f j ≤ greatest w f)
+pub in-range : (w : DueRange) (f : Field) (j : Job) → ¬ OutOfRange w f j → (least w f ≤ fieldOf f j) × (fieldOf f j ≤ greatest w f)
 in-range w f j n =
     let l : ¬ (fieldOf f j < least w f) = λ h. n (inl h) in
     let g : ¬ (greatest w f < fieldOf f j) = λ h. n (inr h) in
@@ -174,9 +174,9 @@ module _ (desk : Desk) (j : Job) where
   -- a new job in range that has room with the others makes a sound seat
   new-seat : ((f : Field) → ¬ DeskHolds desk j (asked f)) → RoomEverywhere (desk .machines) (toPlan (desk .machines) (desk .clock) (withNew desk j))
       → SoundSeat (desk .clock) (newHeld (desk .clock) j)
-  unfolding newHeld withNew admitWindow
+  unfolding newHeld withNew admitDues
   new-seat f r =
-      let w = admitWindow (desk .clock) in
+      let w = admitDues (desk .clock) in
       let n = in-range w the-number j (f the-number) in
       let k = in-range w the-work j (f the-work) in
       let d = in-range w the-deadline j (f the-deadline) in

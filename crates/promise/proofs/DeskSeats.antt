@@ -6,7 +6,7 @@ use mathlib.Core.Logic.{_≢_}
 use mathlib.Core.Bool.{Bool, true, false, cond}
 use mathlib.Core.List.{List, [], _∷_, _++_, map}
 use lib.Dec.{leb, ltb, eqb}
-use lib.ListN.{length, replicate, length-append, length-replicate}
+use lib.ListN.{length, take, replicate, length-append, length-replicate, length-take}
 use borrow.Author.Tests.{ltb-true, ltb-false, leb-false, ne-eqb}
 use Rattle.model.specs.Lists.{All, Distinct, Rising, Perm, done, keep, swap, then}
 use Rattle.model.specs.Jobs.{Job, numbers, width, counted}
@@ -22,6 +22,23 @@ use Rattle.promise.specs.DeskClaims.{Seated}
 -- the numbers of the seats
 abbrev pub numbered : List Held → List ℕ
 numbered hs = map (λ h. h .number) hs
+
+-- the held jobs stand in the first seats
+used-first : (l : List Held) → take (length (inUse l)) l ≡ inUse l
+used-first [] = refl
+used-first (h ∷ hs) = go (eqb (h .number) 0) (used-first hs)
+  where
+    go : (t : Bool) → take (length (inUse hs)) hs ≡ inUse hs → take (length (cond t [] (h ∷ inUse hs))) (h ∷ hs) ≡ cond t [] (h ∷ inUse hs)
+    go true e = refl
+    go false e = ap (λ (m : List Held). h ∷ m) e
+
+module _ (desk : Desk) where
+  pub held-first : take (length (heldOf desk)) (desk .seats) ≡ heldOf desk
+  unfolding heldOf
+  held-first = used-first (desk .seats)
+
+  pub held-few : length (desk .seats) ≡ 32 → length (heldOf desk) ≤ 32
+  held-few l = omega (arith, length-take (length (heldOf desk)) (desk .seats), ap (λ (m : List Held). length m) held-first)
 
 -- a table has 32 seats, and its held jobs are those it was made of
 length-table : (held : List Held) → length held ≤ 32 → length (table held) ≡ 32

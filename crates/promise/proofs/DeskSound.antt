@@ -6,7 +6,7 @@ use mathlib.Core.Path.{_≡_, refl, sym, _∙_, ap₂}
 use mathlib.Core.Logic.{_≢_, _↔_}
 use mathlib.Core.Bool.{Bool, true, false, cond, _&&_, true≢false}
 use mathlib.Core.List.{List, [], _∷_, _++_, map}
-use mathlib.Core.Option.{Option, some, none}
+use mathlib.Core.Option.{Option, some, none, Option·some-ne-none}
 use lib.Dec.{leb, ltb, eqb}
 use lib.ListN.{length, replicate}
 use borrow.Author.Tests.{leb-true, leb-false}
@@ -21,9 +21,6 @@ use Rattle.promise.specs.Desk.{unused, inUse, heldOf, table, jobsFor, So
 use Rattle.promise.specs.DeskCalls.{seatOk, seatFits, isUnused, allUnused, seatsOk, noneShort, isSound}
 use Rattle.promise.specs.DeskClaims.{Seated, SoundIsTested}
 use Rattle.promise.proofs.Ladder.{Tells, holds, fails, tells-lt, tells-eq, tells-same}
-
-pub some-none : (s : Short) → some s ≡ none → ⊥
-some-none s e = let z : _≡_ {A = ℕ} 0 1 = cc in omega arith
 
 pub tells-le : (a b : ℕ) → Tells (a ≤ b) (leb a b)
 tells-le a b = go (leb a b) refl
@@ -133,7 +130,7 @@ tells-room machines jobs = go (leastShort machines jobs) refl
   where
     go : (o : Option Short) → leastShort machines jobs ≡ o → Tells (RoomEverywhere machines jobs) (noneShort o)
     go none e = holds (none-short-is-named machines jobs .0 e)
-    go (some s) e = fails (λ r. some-none s (sym e ∙ none-short-is-named machines jobs .1 r))
+    go (some s) e = fails (λ r. Option·some-ne-none s (sym e ∙ none-short-is-named machines jobs .1 r))
 
 module _ (desk : Desk) (seated : Seated desk) where
   -- what isSound tests, in its order

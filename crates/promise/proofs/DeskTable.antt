@@ -5,7 +5,7 @@ use mathlib.Core.Path.{_≡_, refl, sym, _∙_}
 use mathlib.Core.Logic.{_≢_, _⊎_, inl, inr, _↔_}
 use mathlib.Core.Bool.{Bool}
 use mathlib.Core.List.{List, [], _∷_, _++_, List·Memᴰ, List·Memᴰ·head, List·Memᴰ·tail, List·Memᴰ·not-nil}
-use mathlib.Core.Option.{Option, some, none}
+use mathlib.Core.Option.{Option, some, none, Option·some-ne-none}
 use lib.Dec.{leb}
 use lib.ListN.{length}
 use Rattle.model.specs.Lists.{All}
@@ -17,11 +17,11 @@ use Rattle.promise.specs.declared.Held.{Held}
 use Rattle.promise.specs.declared.Desk.{Desk}
 use Rattle.promise.specs.Answers.{refusal, fault, first}
 use Rattle.promise.specs.Rows.{Field, the-number, the-work, the-deadline, the-bound, fieldOf, least, greatest, fieldFault, fieldsFault}
-use Rattle.promise.specs.Desk.{heldOf, toPlan, Sound}
-use Rattle.promise.specs.DeskCalls.{soundFault, isHeld, admitWindow, deskFit, withNew, admitAnswer, findAnswer, runAnswer, DeskTest, not-sound, asked, held-already, full, no-fit, not-held, at-the-end, DeskHolds, deskAnswerOf, admitOrder, findOrder, runOrder}
+use Rattle.promise.specs.Desk.{heldOf, Sound}
+use Rattle.promise.specs.DeskCalls.{soundFault, isHeld, admitDues, deskFit, jobsWith, admitAnswer, findAnswer, runAnswer, DeskTest, not-sound, asked, held-already, full, no-fit, not-held, at-the-end, DeskHolds, deskAnswerOf, admitOrder, findOrder, runOrder}
 use Rattle.promise.specs.DeskClaims.{Seated, DeskAnswersByTheTable}
 use Rattle.promise.proofs.Ladder.{Tells, holds, fails, tells-lt, tells-eq, tells-or, tells-not, tells-same, Ladder, one, append, none-holds, zero-none, given}
-use Rattle.promise.proofs.DeskSound.{some-none, tells-le, tells-room, tells-sound}
+use Rattle.promise.proofs.DeskSound.{tells-le, tells-room, tells-sound}
 
 -- some seat has number n
 abbrev Among : ℕ → List Held → Type 0
@@ -41,13 +41,9 @@ tells-held n (h ∷ hs) =
     tells-same (more-among n h hs, λ a. less-among n h (a .0) hs (a .1) (a .2)) (tells-or (tells-eq (h .number) n) (tells-held n hs))
 
 module _ (desk : Desk) (j : Job) where
-  -- the jobs to plan with the one that is asked for
-  abbrev pub asks : List Job
-  asks = toPlan (desk .machines) (desk .clock) (withNew desk j)
-
   -- where some boundary is short, one is named
-  no-room : (o : Option Short) → leastShort (desk .machines) asks ≡ o → ¬ RoomEverywhere (desk .machines) asks → (deskFit (desk .clock) o) .number ≢ 0
-  no-room none e h = absurd (h (none-short-is-named (desk .machines) asks .0 e))
+  no-room : (o : Option Short) → leastShort (desk .machines) (jobsWith desk j) ≡ o → ¬ RoomEverywhere (desk .machines) (jobsWith desk j) → (deskFit (desk .clock) o) .number ≢ 0
+  no-room none e h = absurd (h (none-short-is-named (desk .machines) (jobsWith desk j) .0 e))
   no-room (some s) e h = omega arith
 
   pub desk-refuses : (x : DeskTest) → DeskHolds desk j x → (deskAnswerOf desk j x) .number ≢ 0
@@ -55,7 +51,7 @@ module _ (desk : Desk) (j : Job) where
   desk-refuses (asked f) h = omega arith
   desk-refuses held-already h = omega arith
   desk-refuses full h = omega arith
-  desk-refuses no-fit h = no-room (leastShort (desk .machines) asks) refl h
+  desk-refuses no-fit h = no-room (leastShort (desk .machines) (jobsWith desk j)) refl h
   desk-refuses (not-held n) h = omega arith
   desk-refuses at-the-end h = omega arith
 
@@ -69,28 +65,28 @@ module _ (desk : Desk) (j : Job) where
   join : (xs ys : List DeskTest) (a b : Answer) → DeskGives xs a → DeskGives ys b → DeskGives (xs ++ ys) (first a b)
   join = append (DeskHolds desk j) (deskAnswerOf desk j) desk-refuses
 
-  gives-field : (f : Field) → DeskGives (asked f ∷ []) (fieldFault (admitWindow (desk .clock)) 0 f j)
-  unfolding fieldFault admitWindow
+  gives-field : (f : Field) → DeskGives (asked f ∷ []) (fieldFault (admitDues (desk .clock)) 0 f j)
+  unfolding fieldFault admitDues
   gives-field f =
-      let w = admitWindow (desk .clock) in
+      let w = admitDues (desk .clock) in
       test (asked f) (tells-or (tells-lt (fieldOf f j) (least w f)) (tells-lt (greatest w f) (fieldOf f j)))
 
-  pub gives-fields : DeskGives (asked the-number ∷ asked the-work ∷ asked the-deadline ∷ asked the-bound ∷ []) (fieldsFault (admitWindow (desk .clock)) 0 j)
+  pub gives-fields : DeskGives (asked the-number ∷ asked the-work ∷ asked the-deadline ∷ asked the-bound ∷ []) (fieldsFault (admitDues (desk .clock)) 0 j)
   unfolding fieldsFault
   gives-fields =
       join (asked the-number ∷ []) (asked the-work ∷ asked the-deadline ∷ asked the-bound ∷ []) _ _ (gives-field the-number)
       (join (asked the-work ∷ []) (asked the-deadline ∷ asked the-bound ∷ []) _ _ (gives-field the-work)
       (join (asked the-deadline ∷ []) (asked the-bound ∷ []) _ _ (gives-field the-deadline) (gives-field the-bound)))
 
-  gives-fit : DeskGives (no-fit ∷ []) (deskFit (desk .clock) (leastShort (desk .machines) asks))
-  gives-fit = go (leastShort (desk .machines) asks) refl
+  gives-fit : DeskGives (no-fit ∷ []) (deskFit (desk .clock) (leastShort (desk .machines) (jobsWith desk j)))
+  gives-fit = go (leastShort (desk .machines) (jobsWith desk j)) refl
     where
-      all-room : (leastShort (desk .machines) asks ≡ none) ↔ RoomEverywhere (desk .machines) asks
-      all-room = none-short-is-named (desk .machines) asks
+      all-room : (leastShort (desk .machines) (jobsWith desk j) ≡ none) ↔ RoomEverywhere (desk .machines) (jobsWith desk j)
+      all-room = none-short-is-named (desk .machines) (jobsWith desk j)
 
-      go : (o : Option Short) → leastShort (desk .machines) asks ≡ o → DeskGives (no-fit ∷ []) (deskFit (desk .clock) o)
+      go : (o : Option Short) → leastShort (desk .machines) (jobsWith desk j) ≡ o → DeskGives (no-fit ∷ []) (deskFit (desk .clock) o)
       go none e = inr ((λ h. h (all-room .0 e)), refl)
-      go (some s) e = inl ((λ h. some-none s (sym e ∙ all-room .1 h)), rw e)
+      go (some s) e = inl ((λ h. Option·some-ne-none s (sym e ∙ all-room .1 h)), rw e)
 
   module _ (seated : Seated desk) where
     pub gives-sound : DeskGives (not-sound ∷ []) (soundFault desk)
@@ -121,13 +117,13 @@ module _ (desk : Desk) (j : Job) where
 
     -- where no other test holds, Admit answers by the least short boundary alone
     pub answers-fit : Sound desk → ((f : Field) → ¬ DeskHolds desk j (asked f)) → ¬ DeskHolds desk j held-already → ¬ DeskHolds desk j full
-        → admitAnswer desk j ≡ deskFit (desk .clock) (leastShort (desk .machines) asks)
+        → admitAnswer desk j ≡ deskFit (desk .clock) (leastShort (desk .machines) (jobsWith desk j))
     unfolding admitAnswer
     answers-fit s f n g =
         let passes = none-holds (DeskHolds desk j) (deskAnswerOf desk j) in
         rw (
           passes (not-sound ∷ []) (soundFault desk) gives-sound ((λ h. h s), tt),
-          passes (asked the-number ∷ asked the-work ∷ asked the-deadline ∷ asked the-bound ∷ []) (fieldsFault (admitWindow (desk .clock)) 0 j) gives-fields
+          passes (asked the-number ∷ asked the-work ∷ asked the-deadline ∷ asked the-bound ∷ []) (fieldsFault (admitDues (desk .clock)) 0 j) gives-fields
               (f the-number, (f the-work, (f the-deadline, (f the-bound, tt)))),
           passes (held-already ∷ []) _ gives-held (n, tt),
           passes (full ∷ []) _ gives-full (g, tt),
@@ -146,7 +142,7 @@ pub record Admissible (desk : Desk) (j : Job) : Type 0 where
   pub fields : (f : Field) → ¬ DeskHolds desk j (asked f)
   pub new : ¬ DeskHolds desk j held-already
   pub free : ¬ DeskHolds desk j full
-  pub room : RoomEverywhere (desk .machines) (asks desk j)
+  pub room : RoomEverywhere (desk .machines) (jobsWith desk j)
 
 pub really : {P : Type 0} {t : Bool} → Tells P t → ¬ ¬ P → P
 really (holds h) n = h
@@ -157,7 +153,7 @@ admit-yes desk j s e = record {
   fields = each;
   new = passes .1 .1 .1 .1 .1 .0;
   free = passes .1 .1 .1 .1 .1 .1 .0;
-  room = really (tells-room (desk .machines) (asks desk j)) (passes .1 .1 .1 .1 .1 .1 .1 .0);
+  room = really (tells-room (desk .machines) (jobsWith desk j)) (passes .1 .1 .1 .1 .1 .1 .1 .0);
 }
   where
     passes : All (λ x. ¬ DeskHolds desk j x) admitOrder

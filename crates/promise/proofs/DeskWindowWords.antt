@@ -15,13 +15,13 @@ use Rattle.model.specs.Boundaries.{Short, leastShort}
 use Rattle.promise.specs.declared.Desk.{Desk}
 use Rattle.promise.specs.Desk.{heldOf, Sound}
 use Rattle.promise.specs.Rows.{Field, the-number, the-work, the-deadline, the-bound, fieldsFault}
-use Rattle.promise.specs.DeskCalls.{isSound, soundFault, isHeld, admitWindow, deskFit, openOf, admitAnswer, admitOf, findAnswer, withdrawOf, lookOf, runAnswer, runOf, DeskTest, asked, DeskHolds, deskAnswerOf}
+use Rattle.promise.specs.DeskCalls.{jobsWith, isSound, soundFault, isHeld, admitDues, deskFit, openOf, admitAnswer, admitOf, findAnswer, withdrawOf, lookOf, runAnswer, runOf, DeskTest, asked, DeskHolds, deskAnswerOf}
 use Rattle.promise.specs.DeskClaims.{Seated}
 use Rattle.promise.specs.Window.{pack, Packs}
 use Rattle.promise.specs.DeskWindow.{deskRead, recordFault, outputFault, openBytesAnswer, admitBytesAnswer, withdrawBytesAnswer, withdrawPacked, lookBytesAnswer, runBytesAnswer}
 use Rattle.promise.specs.DeskWindowClaims.{DeskWindowPacks}
 use Rattle.promise.proofs.Ladder.{first-zero, first-zero-front, zero-none}
-use Rattle.promise.proofs.DeskTable.{asks, gives-fields, desk-refuses}
+use Rattle.promise.proofs.DeskTable.{gives-fields, desk-refuses}
 use Rattle.promise.proofs.Packing.{yes-small, small-packs, first-keeps, whole-small, count-small, fields-small}
 use Rattle.promise.proofs.DeskBounds.{seven-bounds, held-left}
 use Rattle.promise.proofs.DeskRecord.{from-seated}
@@ -33,18 +33,18 @@ module _ (desk : Desk) (seated : Seated desk) where
   unfolding soundFault
   twelve-packs = small-packs (whole-small (not (isSound desk)) 12 (omega arith))
 
-  fit-packs : Sound desk → (j : Job) → ((f : Field) → ¬ DeskHolds desk j (asked f)) → (o : Option Short) → leastShort (desk .machines) (asks desk j) ≡ o → Packs (deskFit (desk .clock) o)
+  fit-packs : Sound desk → (j : Job) → ((f : Field) → ¬ DeskHolds desk j (asked f)) → (o : Option Short) → leastShort (desk .machines) (jobsWith desk j) ≡ o → Packs (deskFit (desk .clock) o)
   fit-packs s j f none e = small-packs yes-small
   fit-packs s j f (some o) e = let b = seven-bounds desk s j f o e in record { number = omega arith; place = omega (arith, s .clock); amount = omega arith }
 
-  fields-clear : (j : Job) → (fieldsFault (admitWindow (desk .clock)) 0 j) .number ≡ 0 → (f : Field) → ¬ DeskHolds desk j (asked f)
+  fields-clear : (j : Job) → (fieldsFault (admitDues (desk .clock)) 0 j) .number ≡ 0 → (f : Field) → ¬ DeskHolds desk j (asked f)
   fields-clear j z = each
     where
       fields : List DeskTest
       fields = asked the-number ∷ asked the-work ∷ asked the-deadline ∷ asked the-bound ∷ []
 
       passes : All (λ x. ¬ DeskHolds desk j x) fields
-      passes = zero-none (DeskHolds desk j) (deskAnswerOf desk j) (desk-refuses desk j) fields (fieldsFault (admitWindow (desk .clock)) 0 j) z (gives-fields desk j)
+      passes = zero-none (DeskHolds desk j) (deskAnswerOf desk j) (desk-refuses desk j) fields (fieldsFault (admitDues (desk .clock)) 0 j) z (gives-fields desk j)
 
       each : (f : Field) → ¬ DeskHolds desk j (asked f)
       each the-number = passes .0
@@ -56,10 +56,10 @@ module _ (desk : Desk) (seated : Seated desk) where
   unfolding admitAnswer
   admit-packs j =
       first-keeps Packs _ _ twelve-packs
-      (λ z. first-keeps Packs _ _ (small-packs (fields-small (admitWindow (desk .clock)) 0 j (omega arith)))
+      (λ z. first-keeps Packs _ _ (small-packs (fields-small (admitDues (desk .clock)) 0 j (omega arith)))
       (λ y. first-keeps Packs _ _ (small-packs (whole-small (isHeld (j .number) (heldOf desk)) 5 (omega arith)))
       (λ _. first-keeps Packs _ _ (small-packs (whole-small (leb 32 (length (heldOf desk))) 8 (omega arith)))
-      (λ _. fit-packs (clear-sound desk seated z) j (fields-clear j y) (leastShort (desk .machines) (asks desk j)) refl))))
+      (λ _. fit-packs (clear-sound desk seated z) j (fields-clear j y) (leastShort (desk .machines) (jobsWith desk j)) refl))))
 
   find-packs : (n : ℕ) → Packs (findAnswer desk n)
   unfolding findAnswer

@@ -8,34 +8,34 @@ use Rattle.model.specs.Lists.{All}
 use Rattle.promise.specs.declared.LineKind.{LineKind}
 use Rattle.promise.specs.declared.LineKind.the-variants.{MachinesLine, JobLine, WorkLine, DeadlineLine, BoundLine, LabelLine}
 use Rattle.promise.specs.Texts.{newline, ended, Lines, cut}
-use Rattle.promise.specs.JobFile.{lineOf, numberLine, Group, File, groupsLines, fileText, TypedGroup, Typed, GoodFile, BeginsGood, OneLine, toldBy, next}
-use Rattle.promise.proofs.FileLines.{Numeric, machines, job, work, deadline, bound, number-line-told, label-line-told, told-number-line, told-label-line, cut-ended, fileLines, cut-file}
+use Rattle.promise.specs.JobFile.{lineOf, numberLine, Group, File, groupsLines, fileLines, fileText, TypedGroup, Typed, GoodFile, BeginsGood, OneLine, toldBy, following}
+use Rattle.promise.proofs.FileLines.{Numeric, machines, job, work, deadline, bound, number-line-told, label-line-told, told-number-line, told-label-line, cut-ended, cut-file}
 
 -- the kind of the line after some lines
 abbrev pub kindAfter : LineKind → List (List ℕ) → LineKind
 kindAfter kind [] = kind
-kindAfter kind (line ∷ lines) = kindAfter (next kind) lines
+kindAfter kind (line ∷ lines) = kindAfter (following kind) lines
 
 -- each line is of its kind
 abbrev pub Fits : LineKind → List (List ℕ) → Type 0
 Fits kind [] = Unit
-Fits kind (line ∷ lines) = ((ns : List ℕ) × (toldBy kind line ≡ some ns)) × Fits (next kind) lines
+Fits kind (line ∷ lines) = ((ns : List ℕ) × (toldBy kind line ≡ some ns)) × Fits (following kind) lines
 
 fits-front : (kind : LineKind) (xs ys : List (List ℕ)) → Fits kind (xs ++ ys) → Fits kind xs
 fits-front kind [] ys h = tt
-fits-front kind (x ∷ xs) ys h = (h .0, fits-front (next kind) xs ys (h .1))
+fits-front kind (x ∷ xs) ys h = (h .0, fits-front (following kind) xs ys (h .1))
 
 pub fits-back : (kind : LineKind) (xs ys : List (List ℕ)) → Fits kind (xs ++ ys) → Fits (kindAfter kind xs) ys
 fits-back kind [] ys h = h
-fits-back kind (x ∷ xs) ys h = fits-back (next kind) xs ys (h .1)
+fits-back kind (x ∷ xs) ys h = fits-back (following kind) xs ys (h .1)
 
 pub fits-join : (kind : LineKind) (xs ys : List (List ℕ)) → Fits kind xs → Fits (kindAfter kind xs) ys → Fits kind (xs ++ ys)
 fits-join kind [] ys h k = k
-fits-join kind (x ∷ xs) ys h k = (h .0, fits-join (next kind) xs ys (h .1) k)
+fits-join kind (x ∷ xs) ys h k = (h .0, fits-join (following kind) xs ys (h .1) k)
 
 after-join : (kind : LineKind) (xs ys : List (List ℕ)) → kindAfter kind (xs ++ ys) ≡ kindAfter (kindAfter kind xs) ys
 after-join kind [] ys = refl
-after-join kind (x ∷ xs) ys = after-join (next kind) xs ys
+after-join kind (x ∷ xs) ys = after-join (following kind) xs ys
 
 pub ended-join : (xs ys : List (List ℕ)) → ended (xs ++ ys) ≡ ended xs ++ ended ys
 ended-join [] ys = refl
@@ -113,7 +113,7 @@ good-lines (line ∷ lines) h e =
 Completed : LineKind → Type 0
 Completed kind = (more : List (List ℕ)) × Fits kind more × (kindAfter kind more ≡ JobLine)
 
-zero-more : (kind : LineKind) → Numeric kind → Completed (next kind) → Completed kind
+zero-more : (kind : LineKind) → Numeric kind → Completed (following kind) → Completed kind
 unfolding Completed
 zero-more kind k c = (numberLine kind 0 ∷ c .0, ((_, number-line-told kind k 0 (omega arith)), c .1), c .2)
 

@@ -5,7 +5,7 @@ use native.Mathlib.Omega.{arith}
 use mathlib.Core.Path.{_≡_, refl, sym, _∙_, ap}
 use mathlib.Core.Logic.{_≢_, _⊎_, inl, inr, _↔_}
 use mathlib.Core.List.{List, _∷_}
-use lib.ListN.{length}
+use lib.ListN.{length, replicate}
 use borrow.Author.Tests.{lt-ltb, le-ltb}
 use Rattle.promise.specs.declared.Answer.{Answer}
 use Rattle.promise.specs.declared.Reading.{Reading}
@@ -13,7 +13,7 @@ use Rattle.promise.specs.Answers.{refusal}
 use Rattle.promise.specs.Answers as answers
 use Rattle.promise.specs.Texts.{padded}
 use Rattle.promise.specs.JobFile.{File, fileText, Typed, GoodFile, BadLine, Said, bad, says, fileSays, readingFrom, notRead, readingSaid, readingOf, numbersOf}
-use Rattle.promise.specs.TextClaims.{nothing, FileIsRead}
+use Rattle.promise.specs.TextClaims.{FileIsRead}
 use Rattle.promise.proofs.FileJobs.{numbers-length}
 use Rattle.promise.proofs.FileRead.{says-file, bad-said, good-said, said-good, said-bad}
 
@@ -54,20 +54,48 @@ module _ (bytes : List ℕ) where
       go (yes l) e = l
       go (no l) e = absurd (said-fourteen (fileSays bytes) (sym (answer-of (short-read bytes (omega arith))) ∙ e))
 
-  abbrev OneOfThese : Type 0
-  OneOfThese = ((readingOf bytes) .answer ≡ answers.yes) ⊎ ((ℓ : ℕ) × (readingOf bytes ≡ nothing (refusal 13 ℓ 0))) ⊎ (readingOf bytes ≡ nothing (refusal 14 0 0))
+  -- read, or refused with no figures
+  abbrev ReadOrNot : Type 0
+  ReadOrNot = ((readingOf bytes) .answer ≡ answers.yes) ⊎ ((ℓ : ℕ) × (readingOf bytes ≡ notRead (refusal 13 ℓ 0))) ⊎ (readingOf bytes ≡ notRead (refusal 14 0 0))
 
-  one-of-these : OneOfThese
-  unfolding readingFrom notRead
-  one-of-these = go (decLt 4096 (length bytes))
+  read-or-not : ReadOrNot
+  unfolding readingFrom
+  read-or-not = go (decLt 4096 (length bytes))
     where
-      short : (s : Said) → readingOf bytes ≡ readingSaid s → OneOfThese
+      short : (s : Said) → readingOf bytes ≡ readingSaid s → ReadOrNot
       short (bad ℓ) e = inr (inl (ℓ, e))
       short (says ns) e = inl (answer-of e)
 
-      go : Dec (4096 < length bytes) → OneOfThese
+      go : Dec (4096 < length bytes) → ReadOrNot
       go (yes l) = inr (inr (long-read bytes l))
       go (no l) = short (fileSays bytes) (short-read bytes (omega arith))
+
+  abbrev OneAnswer : Type 0
+  OneAnswer = ((readingOf bytes) .answer ≡ answers.yes) ⊎ ((ℓ : ℕ) × ((readingOf bytes) .answer ≡ refusal 13 ℓ 0)) ⊎ ((readingOf bytes) .answer ≡ refusal 14 0 0)
+
+  abbrev NoFigures : Type 0
+  NoFigures = ((readingOf bytes) .machines ≡ 0) × ((readingOf bytes) .groups ≡ 0) × ((readingOf bytes) .rows ≡ replicate 128 0)
+
+  one-of-these : OneAnswer
+  unfolding notRead
+  one-of-these = go read-or-not
+    where
+      go : ReadOrNot → OneAnswer
+      go (inl e) = inl e
+      go (inr (inl e)) = inr (inl (e .0, answer-of (e .1)))
+      go (inr (inr e)) = inr (inr (answer-of e))
+
+  no-figures : ((readingOf bytes) .answer) .number ≢ 0 → NoFigures
+  unfolding notRead
+  no-figures h = go read-or-not
+    where
+      none-of : (a : Answer) → readingOf bytes ≡ notRead a → NoFigures
+      none-of a e = (ap (λ (r : Reading). r .machines) e, ap (λ (r : Reading). r .groups) e, ap (λ (r : Reading). r .rows) e)
+
+      go : ReadOrNot → NoFigures
+      go (inl e) = absurd (h (ap (λ (a : Answer). a .number) e))
+      go (inr (inl e)) = none-of (refusal 13 (e .0) 0) (e .1)
+      go (inr (inr e)) = none-of (refusal 14 0 0) e
 
   module _ (l : length bytes ≤ 4096) where
     good : ((readingOf bytes) .answer ≡ answers.yes) ↔ GoodFile bytes
@@ -99,4 +127,5 @@ file-is-read bytes = record {
   as-typed = as-typed bytes;
   thirteen = thirteen bytes;
   one-of-these = one-of-these bytes;
+  no-figures = no-figures bytes;
 }

@@ -15,7 +15,7 @@ use Rattle.model.specs.Boundaries.{Short, leastShort}
 use Rattle.promise.specs.declared.Answer.{Answer}
 use Rattle.promise.specs.Answers.{refusal, fault, first, fitAnswer}
 use Rattle.promise.specs.Answers as answers
-use Rattle.promise.specs.Rows.{rowAt, rowCount, jobRows, jobsOf, Field, the-number, the-work, the-deadline, the-bound, fieldNumber, fieldOf, listWindow, least, greatest, fieldFault, fieldsFault, seenBefore, seenFault, rowsFault, countFault, lengthFault, manyFault, listFault}
+use Rattle.promise.specs.Rows.{rowAt, rowCount, jobRows, jobsOf, Field, the-number, the-work, the-deadline, the-bound, fieldNumber, fieldOf, listDues, least, greatest, fieldFault, fieldsFault, seenBefore, seenFault, rowFault, rowsFault, countFault, lengthFault, manyFault, listFault}
 use Rattle.promise.specs.Lists.{planned, planAnswer}
 use Rattle.promise.specs.JobFile.{Group, File, numbersOf}
 use Rattle.promise.specs.PlanText.{rowsAnswer}
@@ -89,11 +89,11 @@ other-fault : (t : Bool) (n place amount : ℕ) → n ≢ 2 → n ≢ 6 → Othe
 other-fault true n place amount h k = record { two = h; six = k }
 other-fault false n place amount h k = other-yes
 
-other-field : (i : ℕ) (f : Field) (j : Job) → Other (fieldFault listWindow i f j)
+other-field : (i : ℕ) (f : Field) (j : Job) → Other (fieldFault listDues i f j)
 unfolding fieldFault
-other-field i f j = other-fault (ltb (fieldOf f j) (least listWindow f) || ltb (greatest listWindow f) (fieldOf f j)) 4 i (fieldNumber f) (omega arith) (omega arith)
+other-field i f j = other-fault (ltb (fieldOf f j) (least listDues f) || ltb (greatest listDues f) (fieldOf f j)) 4 i (fieldNumber f) (omega arith) (omega arith)
 
-other-fields : (i : ℕ) (j : Job) → Other (fieldsFault listWindow i j)
+other-fields : (i : ℕ) (j : Job) → Other (fieldsFault listDues i j)
 unfolding fieldsFault
 other-fields i j =
     other-first _ _ (other-field i the-number j)
@@ -103,9 +103,13 @@ other-seen : (rows : List ℕ) (i : ℕ) → Other (seenFault rows i)
 unfolding seenFault
 other-seen rows i = other-fault (seenBefore rows ((rowAt rows i) .number) i) 5 i 0 (omega arith) (omega arith)
 
+other-row : (rows : List ℕ) (i : ℕ) → Other (rowFault rows i)
+unfolding rowFault
+other-row rows i = other-first _ _ (other-fields i (rowAt rows i)) (other-seen rows i)
+
 other-rows : (rows : List ℕ) (i n : ℕ) → Other (rowsFault rows i n)
 other-rows rows i zero = other-yes
-other-rows rows i (suc n) = other-first _ _ (other-first _ _ (other-fields i (rowAt rows i)) (other-seen rows i)) (other-rows rows (suc i) n)
+other-rows rows i (suc n) = other-first _ _ (other-row rows i) (other-rows rows (suc i) n)
 
 other-length : (rows : List ℕ) → length rows % 4 ≡ 0 → Other (lengthFault rows)
 unfolding lengthFault

@@ -13,7 +13,7 @@ use Rattle.model.proofs.Lists.{All-map}
 use Rattle.promise.specs.declared.LineKind.{LineKind}
 use Rattle.promise.specs.declared.LineKind.the-variants.{MachinesLine, JobLine, WorkLine, DeadlineLine, BoundLine, LabelLine}
 use Rattle.promise.specs.Texts.{decimal, LabelText, isLabel, readNumber, newline, ended, Lines, inFront, cut}
-use Rattle.promise.specs.JobFile.{key, lineOf, numberLine, Group, File, groupsLines, fileText, TypedGroup, Typed, OneLine, afterKey, numberTold, labelTold, told, toldBy}
+use Rattle.promise.specs.JobFile.{key, lineOf, numberLine, Group, File, groupsLines, fileLines, fileText, TypedGroup, Typed, OneLine, afterKey, numberTold, labelTold, numberAfter, told, toldBy}
 use Rattle.promise.specs.TextClaims.{FilesHaveTheirOwnText}
 use Rattle.promise.proofs.TextTests.{label-told, told-label}
 use Rattle.promise.proofs.Digits.{Digit, decimal-digits, numbers-are-read-back, numbers-are-printed-back}
@@ -42,16 +42,16 @@ pub data Numeric : LineKind → Type 0 where
   deadline : Numeric DeadlineLine
   bound : Numeric BoundLine
 
-numeric-told : (kind : LineKind) → Numeric kind → (text : List ℕ) → told kind (some text) ≡ numberTold (readNumber text)
-numeric-told kind machines text = refl
-numeric-told kind job text = refl
-numeric-told kind work text = refl
-numeric-told kind deadline text = refl
-numeric-told kind bound text = refl
+numeric-told : (kind : LineKind) → Numeric kind → (after : Option (List ℕ)) → told kind after ≡ numberAfter after
+numeric-told kind machines after = refl
+numeric-told kind job after = refl
+numeric-told kind work after = refl
+numeric-told kind deadline after = refl
+numeric-told kind bound after = refl
 
 pub number-line-told : (kind : LineKind) → Numeric kind → (n : ℕ) → n < 10000000 → toldBy kind (numberLine kind n) ≡ some (n ∷ [])
 unfolding toldBy
-number-line-told kind k n l = rw (key-off (key kind) (decimal n)) (numeric-told kind k (decimal n) ∙ ap numberTold (numbers-are-read-back n l .1))
+number-line-told kind k n l = rw (key-off (key kind) (decimal n)) (numeric-told kind k (some (decimal n)) ∙ ap numberTold (numbers-are-read-back n l .1))
 
 pub label-line-told : (text : List ℕ) → LabelText text → toldBy LabelLine (lineOf LabelLine text) ≡ some []
 unfolding toldBy labelTold
@@ -66,7 +66,7 @@ LabelSaid line ns = (text : List ℕ) × LabelText text × (lineOf LabelLine tex
 
 pub told-number-line : (kind : LineKind) → Numeric kind → (line ns : List ℕ) → toldBy kind line ≡ some ns → NumberSaid kind line ns
 unfolding toldBy
-told-number-line kind k line ns e = go (afterKey (key kind) line) refl e
+told-number-line kind k line ns e = go (afterKey (key kind) line) refl (sym (numeric-told kind k (afterKey (key kind) line)) ∙ e)
   where
     read : (text : List ℕ) → line ≡ key kind ++ text → (o : Option ℕ) → readNumber text ≡ o → numberTold o ≡ some ns → NumberSaid kind line ns
     read text q none r h = absurd (Option·none-ne-some ns h)
@@ -74,9 +74,9 @@ told-number-line kind k line ns e = go (afterKey (key kind) line) refl e
         let p = numbers-are-printed-back text .0 n r in
         (n, p .1, ap (λ (t : List ℕ). key kind ++ t) (p .2) ∙ sym q, sym (Option·some-injective (n ∷ []) ns h))
 
-    go : (o : Option (List ℕ)) → afterKey (key kind) line ≡ o → told kind o ≡ some ns → NumberSaid kind line ns
+    go : (o : Option (List ℕ)) → afterKey (key kind) line ≡ o → numberAfter o ≡ some ns → NumberSaid kind line ns
     go none q h = absurd (Option·none-ne-some ns h)
-    go (some text) q h = read text (key-on (key kind) line text q) (readNumber text) refl (sym (numeric-told kind k text) ∙ h)
+    go (some text) q h = read text (key-on (key kind) line text q) (readNumber text) refl h
 
 pub told-label-line : (line ns : List ℕ) → toldBy LabelLine line ≡ some ns → LabelSaid line ns
 unfolding toldBy labelTold
@@ -157,9 +157,6 @@ joined (b ∷ bytes) = go (eqb b newline) refl (joined bytes)
     go false e j = in-front b bytes (eqb-false b newline e) ((cut bytes) .whole) ((cut bytes) .rest) j
 
 -- the lines of a file are what its text is cut into
-abbrev pub fileLines : File → List (List ℕ)
-fileLines f = numberLine MachinesLine (f .machines) ∷ groupsLines (f .groups)
-
 pub file-one-line : (f : File) → Typed f → All OneLine (fileLines f)
 file-one-line f h = (number-one-line MachinesLine (f .machines), groups-one-line (f .groups) (h .groups))
 

@@ -14,7 +14,7 @@ use Rattle.model.proofs.Lists.{total-perm, perm-all, perm-map, perm-distinct}
 use Rattle.model.proofs.Order.{order-plays-no-part}
 use Rattle.promise.specs.declared.LineKind.the-variants.{MachinesLine, JobLine}
 use Rattle.promise.specs.Answers.{fitAnswer}
-use Rattle.promise.specs.Rows.{rowAt, rowCount, jobRows, jobsOf, Field, the-number, the-work, the-deadline, the-bound, listWindow, OutOfRange, listFault, rowsTests, listOrder}
+use Rattle.promise.specs.Rows.{rowAt, rowCount, jobRows, jobsOf, Field, the-number, the-work, the-deadline, the-bound, listDues, OutOfRange, listFault, rowsTests, listOrder}
 use Rattle.promise.specs.Lists.{planned, Holds, answerOf, planAnswer}
 use Rattle.promise.specs.Texts.{ascii, ended}
 use Rattle.promise.specs.JobFile.{numberLine, fileText, numbersOf}
@@ -53,7 +53,7 @@ jobs-length rows = sym (length-map (jobsOf rows) (λ (j : Job). j .number)) ∙ 
 
 -- every field of a job is in range
 abbrev pub Right : Job → Type 0
-Right j = (f : Field) → ¬ OutOfRange listWindow f j
+Right j = (f : Field) → ¬ OutOfRange listDues f j
 
 module _ (machines : ℕ) (rows : List ℕ) where
   pub rows-right : (i n : ℕ) → Passes machines rows (rowsTests i n) → All Right (jobRows rows i n)

@@ -11,7 +11,7 @@ use Rattle.model.specs.Lists.{All}
 use Rattle.promise.specs.declared.LineKind.{LineKind}
 use Rattle.promise.specs.declared.LineKind.the-variants.{MachinesLine, JobLine, WorkLine, DeadlineLine, BoundLine, LabelLine}
 use Rattle.promise.specs.Texts.{newline, ended, cut}
-use Rattle.promise.specs.JobFile.{Group, File, groupsLines, fileText, TypedGroup, Typed, GoodFile, BeginsGood, OneLine, BadLine, toldBy, next, Said, bad, says, andThen, atEnd, linesSay, linesIn, fileSays, numbersOf}
+use Rattle.promise.specs.JobFile.{Group, File, groupsLines, fileText, TypedGroup, Typed, GoodFile, BeginsGood, OneLine, BadLine, toldBy, following, Said, bad, says, andThen, atEnd, linesSay, linesIn, fileSays, numbersOf}
 use Rattle.promise.proofs.Ladder.{All-front, All-back}
 use Rattle.promise.proofs.Lines.{cut-line, cut-rest}
 use Rattle.promise.proofs.FileFits.{kindAfter, Fits, fits-join, fits-back, ended-join, good-lines, fits-begins, begins-fits}
@@ -41,7 +41,7 @@ says-file f h =
 bad-after : (kind : LineKind) (i j m : ℕ) (xs ys : List (List ℕ)) (rest : List ℕ) → Fits kind xs → j ≡ i + length xs
     → linesSay (kindAfter kind xs) j ys rest ≡ bad m → linesSay kind i (xs ++ ys) rest ≡ bad m
 bad-after kind i j m [] ys rest h e q = let l : j ≡ i = omega arith in rw (← l) q
-bad-after kind i j m (x ∷ xs) ys rest h e q = rw (h .0 .1, bad-after (next kind) (suc i) j m xs ys rest (h .1) (omega arith) q)
+bad-after kind i j m (x ∷ xs) ys rest h e q = rw (h .0 .1, bad-after (following kind) (suc i) j m xs ys rest (h .1) (omega arith) q)
 
 -- a file ends where a job could begin, or the line there is bad
 ends : (kind : LineKind) (ℓ : ℕ) (rest : List ℕ) → (atEnd kind ℓ rest ≡ bad ℓ) ⊎ ((kind ≡ JobLine) × (rest ≡ []))
@@ -66,7 +66,7 @@ module _ (bytes : List ℕ) (ℓ : ℕ) (h : BadLine bytes ℓ) where
   unfolding there
   ended-bad line more o never = ap (linesIn there ℓ) (cut-line line more o) ∙ go (toldBy there line) refl
     where
-      go : (t : Option (List ℕ)) → toldBy there line ≡ t → andThen t ℓ (linesIn (next there) (suc ℓ) (cut more)) ≡ bad ℓ
+      go : (t : Option (List ℕ)) → toldBy there line ≡ t → andThen t ℓ (linesIn (following there) (suc ℓ) (cut more)) ≡ bad ℓ
       go none e = refl
       go (some ns) e =
           absurd (never (subst BeginsGood (ended-join (h .lines) (line ∷ []))
@@ -121,20 +121,20 @@ at-end LabelLine i rest = no-line LabelLine i
 
 -- a line of its kind in front
 line-more : (kind : LineKind) (i : ℕ) (line ns : List ℕ) (whole : List (List ℕ)) (ℓ : ℕ) → toldBy kind line ≡ some ns
-    → FirstBad (next kind) (suc i) whole ℓ → FirstBad kind i (line ∷ whole) ℓ
+    → FirstBad (following kind) (suc i) whole ℓ → FirstBad kind i (line ∷ whole) ℓ
 line-more kind i line ns whole ℓ e f = record { lines = line ∷ f .lines; each = ((ns, e), f .each); counted = omega (arith, f .counted); here = go (f .here) }
   where
-    go : ((x : List ℕ) × (more : List (List ℕ)) × (whole ≡ f .lines ++ (x ∷ more)) × (toldBy (kindAfter (next kind) (f .lines)) x ≡ none)) ⊎ (whole ≡ f .lines)
-        → ((x : List ℕ) × (more : List (List ℕ)) × (line ∷ whole ≡ line ∷ (f .lines ++ (x ∷ more))) × (toldBy (kindAfter (next kind) (f .lines)) x ≡ none))
+    go : ((x : List ℕ) × (more : List (List ℕ)) × (whole ≡ f .lines ++ (x ∷ more)) × (toldBy (kindAfter (following kind) (f .lines)) x ≡ none)) ⊎ (whole ≡ f .lines)
+        → ((x : List ℕ) × (more : List (List ℕ)) × (line ∷ whole ≡ line ∷ (f .lines ++ (x ∷ more))) × (toldBy (kindAfter (following kind) (f .lines)) x ≡ none))
         ⊎ (line ∷ whole ≡ line ∷ f .lines)
     go (inl (x, more, q, t)) = inl (x, more, ap (λ (l : List (List ℕ)). line ∷ l) q, t)
     go (inr q) = inr (ap (λ (l : List (List ℕ)). line ∷ l) q)
 
 saying : (kind : LineKind) (i : ℕ) (whole : List (List ℕ)) (rest : List ℕ) → Saying kind i whole rest (linesSay kind i whole rest)
 saying kind i [] rest = at-end kind i rest
-saying kind i (line ∷ whole) rest = go (toldBy kind line) refl (linesSay (next kind) (suc i) whole rest) (saying (next kind) (suc i) whole rest)
+saying kind i (line ∷ whole) rest = go (toldBy kind line) refl (linesSay (following kind) (suc i) whole rest) (saying (following kind) (suc i) whole rest)
   where
-    go : (t : Option (List ℕ)) → toldBy kind line ≡ t → (s : Said) → Saying (next kind) (suc i) whole rest s
+    go : (t : Option (List ℕ)) → toldBy kind line ≡ t → (s : Said) → Saying (following kind) (suc i) whole rest s
         → Saying kind i (line ∷ whole) rest (andThen t i s)
     go none e s h = record { lines = []; each = tt; counted = omega arith; here = inl (line, whole, refl, e) }
     go (some ns) e (bad ℓ) h = line-more kind i line ns whole ℓ e h

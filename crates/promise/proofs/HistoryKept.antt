@@ -7,7 +7,7 @@ use Rattle.model.specs.Lists.{All, done}
 use Rattle.promise.specs.declared.Desk.{Desk}
 use Rattle.promise.specs.Desk.{deskOf, Sound}
 use Rattle.promise.specs.DeskCalls.{openOf}
-use Rattle.promise.specs.History.{Call, admit, withdraw, look, run, answerOf, happens, returned, eventsFrom, deskFrom, deskAfter, historyOf, roomOpened, Ledger, entered, ledgerFrom, ledgerOf, ledgerAfter}
+use Rattle.promise.specs.History.{Call, admit, withdraw, look, run, eventAnswer, happens, returned, eventsFrom, deskFrom, deskAfter, historyOf, roomOpened, Ledger, entered, ledgerFrom, ledgerOf, ledgerAfter}
 use Rattle.promise.specs.DeskClaims.{DemandThree}
 use Rattle.promise.proofs.DeskKept.{soundness-is-kept}
 use Rattle.promise.proofs.Standing.{standing-of}
@@ -48,11 +48,11 @@ unfolding deskAfter ledgerAfter ledgerOf historyOf
 history-in-step machines calls = calls-in-step calls ((openOf machines) .desk) (record { clock = 0; inForce = [] }) (open-in-step machines)
 
 -- (d)
-calls-never-twelve : (calls : List Call) (desk : Desk) → Sound desk → All (λ e. (answerOf e) .number ≢ 12) (eventsFrom desk calls)
+calls-never-twelve : (calls : List Call) (desk : Desk) → Sound desk → All (λ e. (eventAnswer e) .number ≢ 12) (eventsFrom desk calls)
 calls-never-twelve [] desk s = tt
 calls-never-twelve (call ∷ calls) desk s = (call-not-twelve desk s call, calls-never-twelve calls (returned desk call) (call-sound desk s call))
 
-history-never-twelve : (machines : ℕ) (calls : List Call) → All (λ e. (answerOf e) .number ≢ 12) (historyOf machines calls)
+history-never-twelve : (machines : ℕ) (calls : List Call) → All (λ e. (eventAnswer e) .number ≢ 12) (historyOf machines calls)
 unfolding historyOf
 history-never-twelve machines calls = calls-never-twelve calls ((openOf machines) .desk) (soundness-is-kept .0 machines)
 

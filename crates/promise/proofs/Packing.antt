@@ -13,7 +13,7 @@ use Rattle.model.specs.Boundaries.{Short, leastShort}
 use Rattle.model.proofs.LeastShort.{least-short-is-named}
 use Rattle.promise.specs.declared.Answer.{Answer}
 use Rattle.promise.specs.Answers.{yes, refusal, fault, first, fitAnswer}
-use Rattle.promise.specs.Rows.{rowAt, rowCount, Window, listWindow, Field, the-number, the-work, the-deadline, the-bound, fieldNumber, fieldOf, least, greatest, fieldFault, fieldsFault, seenBefore, seenFault, rowsFault, countFault, lengthFault, manyFault, listFault, listOrder}
+use Rattle.promise.specs.Rows.{rowAt, rowCount, DueRange, listDues, Field, the-number, the-work, the-deadline, the-bound, fieldNumber, fieldOf, least, greatest, fieldFault, fieldsFault, seenBefore, seenFault, rowFault, rowsFault, countFault, lengthFault, manyFault, listFault, listOrder}
 use Rattle.promise.specs.Lists.{planned, planAnswer, roomAnswer, Holds, answerOf}
 use Rattle.promise.specs.Window.{wordsOf, bytesFault, windowAnswer, pack, Packs, roomWindowAnswer}
 use Rattle.promise.specs.Claims.{AnswersPack, PackingIsOneToOne}
@@ -57,7 +57,7 @@ field-few the-deadline = omega arith
 field-few the-bound = omega arith
 
 -- a job's fields at place i, one of at most 32
-module _ (w : Window) (i : ℕ) (j : Job) (l : i < 32) where
+module _ (w : DueRange) (i : ℕ) (j : Job) (l : i < 32) where
   field-small : (f : Field) → Small (fieldFault w i f j)
   unfolding fieldFault
   field-small f =
@@ -78,11 +78,13 @@ module _ (rows : List ℕ) (i : ℕ) (l : i < 32) where
       fault-small (seenBefore rows ((rowAt rows i) .number) i) (refusal 5 i 0)
       (record { number = omega arith; place = omega arith; amount = omega arith })
 
+row-small : (rows : List ℕ) (i : ℕ) → i < 32 → Small (rowFault rows i)
+unfolding rowFault
+row-small rows i l = first-keeps Small _ _ (fields-small listDues i (rowAt rows i) l) (λ _. seen-small rows i l)
+
 rows-small : (rows : List ℕ) (i n : ℕ) → i + n ≤ 32 → Small (rowsFault rows i n)
 rows-small rows i zero l = yes-small
-rows-small rows i (suc n) l =
-    let here : i < 32 = omega arith in
-    first-keeps Small _ _ (first-keeps Small _ _ (fields-small listWindow i (rowAt rows i) here) (λ _. seen-small rows i here)) (λ _. rows-small rows (suc i) n (omega arith))
+rows-small rows i (suc n) l = first-keeps Small _ _ (row-small rows i (omega arith)) (λ _. rows-small rows (suc i) n (omega arith))
 
 -- no 3 is answered: at most 32 rows
 not-many : (rows : List ℕ) → (manyFault rows) .number ≡ 0 → rowCount rows ≤ 32

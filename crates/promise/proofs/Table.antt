@@ -6,20 +6,17 @@ use mathlib.Core.Path.{_≡_, refl, sym, _∙_}
 use mathlib.Core.Logic.{_≢_, _⊎_, inl, inr, _↔_}
 use mathlib.Core.Bool.{Bool}
 use mathlib.Core.List.{List, [], _∷_, _++_}
-use mathlib.Core.Option.{Option, some, none}
+use mathlib.Core.Option.{Option, some, none, Option·some-ne-none}
 use lib.Dec.{ltb}
 use lib.ListN.{length}
 use Rattle.model.specs.Boundaries.{RoomEverywhere, Short, leastShort}
 use Rattle.model.proofs.LeastShort.{none-short-is-named}
 use Rattle.promise.specs.declared.Answer.{Answer}
 use Rattle.promise.specs.Answers.{refusal, fault, first, fitAnswer}
-use Rattle.promise.specs.Rows.{rowAt, rowCount, listWindow, Field, the-number, the-work, the-deadline, the-bound, fieldOf, least, greatest, Test, machine-count, list-length, row-count, field, seen, plan-buffer, fit, boundary, fieldFault, fieldsFault, seenBefore, seenFault, rowsFault, countFault, lengthFault, manyFault, listFault, rowTests, rowsTests, listOrder}
+use Rattle.promise.specs.Rows.{rowAt, rowCount, listDues, Field, the-number, the-work, the-deadline, the-bound, fieldOf, least, greatest, Test, machine-count, list-length, row-count, field, seen, plan-buffer, fit, boundary, fieldFault, fieldsFault, seenBefore, seenFault, rowFault, rowsFault, countFault, lengthFault, manyFault, listFault, rowTests, rowsTests, listOrder}
 use Rattle.promise.specs.Lists.{planned, Holds, answerOf, planOrder, planAnswer, roomOrder, roomAnswer}
 use Rattle.promise.specs.Claims.{PlanAnswersByTheTable, RoomAnswersByTheTable}
 use Rattle.promise.proofs.Ladder.{Tells, fails, tells-lt, tells-eq, tells-or, tells-not, tells-same, Ladder, one, append, given}
-
-some-none : (s : Short) → some s ≡ none → ⊥
-some-none s e = let z : _≡_ {A = ℕ} 0 1 = cc in omega arith
 
 module _ (machines : ℕ) (rows : List ℕ) where
   -- n is the number of one of the rows before row i
@@ -66,13 +63,13 @@ module _ (machines : ℕ) (rows : List ℕ) where
   join : (xs ys : List Test) (a b : Answer) → Gives xs a → Gives ys b → Gives (xs ++ ys) (first a b)
   join = append (Holds machines rows) (answerOf machines rows) refuses
 
-  gives-field : (i : ℕ) (f : Field) → Gives (field i f ∷ []) (fieldFault listWindow i f (rowAt rows i))
+  gives-field : (i : ℕ) (f : Field) → Gives (field i f ∷ []) (fieldFault listDues i f (rowAt rows i))
   unfolding fieldFault
   gives-field i f =
-      let v : ℕ = fieldOf f (rowAt rows i) in test (field i f) (tells-or (tells-lt v (least listWindow f)) (tells-lt (greatest listWindow f) v))
+      let v : ℕ = fieldOf f (rowAt rows i) in test (field i f) (tells-or (tells-lt v (least listDues f)) (tells-lt (greatest listDues f) v))
 
   gives-fields : (i : ℕ)
-      → Gives (field i the-number ∷ field i the-work ∷ field i the-deadline ∷ field i the-bound ∷ []) (fieldsFault listWindow i (rowAt rows i))
+      → Gives (field i the-number ∷ field i the-work ∷ field i the-deadline ∷ field i the-bound ∷ []) (fieldsFault listDues i (rowAt rows i))
   unfolding fieldsFault
   gives-fields i =
       join (field i the-number ∷ []) (field i the-work ∷ field i the-deadline ∷ field i the-bound ∷ []) _ _ (gives-field i the-number)
@@ -83,12 +80,14 @@ module _ (machines : ℕ) (rows : List ℕ) where
   unfolding seenFault
   gives-seen i = test (seen i) (tells-seen ((rowAt rows i) .number) i)
 
+  gives-row : (i : ℕ) → Gives (rowTests i) (rowFault rows i)
+  unfolding rowFault
+  gives-row i =
+      join (field i the-number ∷ field i the-work ∷ field i the-deadline ∷ field i the-bound ∷ []) (seen i ∷ []) _ _ (gives-fields i) (gives-seen i)
+
   gives-rows : (i n : ℕ) → Gives (rowsTests i n) (rowsFault rows i n)
   gives-rows i zero = refl
-  gives-rows i (suc n) =
-      join (rowTests i) (rowsTests (suc i) n) _ _
-      (join (field i the-number ∷ field i the-work ∷ field i the-deadline ∷ field i the-bound ∷ []) (seen i ∷ []) _ _ (gives-fields i) (gives-seen i))
-      (gives-rows (suc i) n)
+  gives-rows i (suc n) = join (rowTests i) (rowsTests (suc i) n) _ _ (gives-row i) (gives-rows (suc i) n)
 
   gives-count : Gives (machine-count ∷ []) (countFault machines)
   unfolding countFault
@@ -120,7 +119,7 @@ module _ (machines : ℕ) (rows : List ℕ) where
 
       go : (o : Option Short) → leastShort machines (planned machines rows) ≡ o → Gives (fit ∷ []) (fitAnswer o)
       go none e = inr ((λ h. h (all-room .0 e)), refl)
-      go (some s) e = inl ((λ h. some-none s (sym e ∙ all-room .1 h)), rw e)
+      go (some s) e = inl ((λ h. Option·some-ne-none s (sym e ∙ all-room .1 h)), rw e)
 
   pub gives-plan : (size : ℕ) → Gives (planOrder rows size) (planAnswer machines rows size)
   unfolding planOrder planAnswer

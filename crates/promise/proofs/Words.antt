@@ -71,10 +71,16 @@ words-length : (bytes : List ℕ) (i n : ℕ) → length (wordsFrom bytes i n) �
 words-length bytes i zero = refl
 words-length bytes i (suc n) = ap suc (words-length bytes (suc i) n)
 
+pub words-count : (list : List ℕ) → length (wordsOf list) ≡ length list / 4
+unfolding wordsOf
+words-count list = words-length list 0 (length list / 4)
+
+pub row-count : (list : List ℕ) → rowCount (wordsOf list) ≡ length list / 16
+unfolding rowCount
+row-count list = omega (arith, words-count list)
+
 pub window-counts-bytes : WindowCountsBytes
-unfolding wordsOf rowCount
-window-counts-bytes machines list size =
-    (omega (arith, words-length list 0 (length list / 4)), ((λ l. omega arith), λ l. omega arith))
+window-counts-bytes machines list size = (row-count list, ((λ l. omega arith), λ l. omega arith))
 
 -- 1 and 2 at the window
 module _ (machines : ℕ) (list : List ℕ) where

@@ -17,7 +17,7 @@ use Rattle.promise.specs.declared.Looked.{Looked}
 use Rattle.promise.specs.declared.Given.{Given}
 use Rattle.promise.specs.declared.Ran.{Ran}
 use Rattle.promise.specs.Answers.{yes, refusal, fault, first}
-use Rattle.promise.specs.Rows.{Field, the-number, the-work, the-deadline, the-bound, fieldNumber, Window, OutOfRange, fieldsFault, countFault}
+use Rattle.promise.specs.Rows.{Field, the-number, the-work, the-deadline, the-bound, fieldNumber, DueRange, OutOfRange, fieldsFault, countFault}
 use Rattle.promise.specs.Desk.{unused, heldOf, deskOf, toPlan, jobsFor, Sound, column, leeway}
 
 -- soundness as a test that computes: the seats one after the other, with the number before each
@@ -82,8 +82,8 @@ openOf machines = record {
 }
 
 -- Admit. "its field 3 must be clock + 1 to the smaller of clock + 168 and 100,000"
-unfoldable pub admitWindow : ℕ → Window
-admitWindow clock = record { from = clock + 1; to = min (clock + 168) 100000 }
+unfoldable pub admitDues : ℕ → DueRange
+admitDues clock = record { from = clock + 1; to = min (clock + 168) 100000 }
 
 -- the job that is asked for, its deadline a slot number on the clock, in its seat
 unfoldable pub newHeld : ℕ → Job → Held
@@ -94,18 +94,21 @@ abbrev pub deskFit : ℕ → Option Short → Answer
 deskFit clock none = yes
 deskFit clock (some s) = refusal 7 (clock + s .place) (s .amount)
 
--- the held jobs with the new one
+-- the held jobs with the new one, and as they count for planning
 unfoldable pub withNew : Desk → Job → List Held
 withNew desk j = seated (newHeld (desk .clock) j) (heldOf desk)
+
+abbrev pub jobsWith : Desk → Job → List Job
+jobsWith desk j = toPlan (desk .machines) (desk .clock) (withNew desk j)
 
 -- "Admit: 12, 4, 5, 8, 7"
 unfoldable pub admitAnswer : Desk → Job → Answer
 admitAnswer desk j =
     first (soundFault desk)
-    (first (fieldsFault (admitWindow (desk .clock)) 0 j)
+    (first (fieldsFault (admitDues (desk .clock)) 0 j)
     (first (fault (isHeld (j .number) (heldOf desk)) (refusal 5 0 0))
     (first (fault (leb 32 (length (heldOf desk))) (refusal 8 0 0))
-    (deskFit (desk .clock) (leastShort (desk .machines) (toPlan (desk .machines) (desk .clock) (withNew desk j)))))))
+    (deskFit (desk .clock) (leastShort (desk .machines) (jobsWith desk j))))))
 
 -- a yes hands back the new desk, a refusal "the desk back as it came"
 abbrev pub handed : Answer → Desk → Desk → Desk
@@ -188,7 +191,7 @@ DeskHolds desk j not-sound = ¬ Sound desk
 DeskHolds desk j (asked f) = OutOfRange (record { from = desk .clock + 1; to = min (desk .clock + 168) 100000 }) f j
 DeskHolds desk j held-already = HeldAs desk (j .number)
 DeskHolds desk j full = 32 ≤ length (heldOf desk)
-DeskHolds desk j no-fit = ¬ RoomEverywhere (desk .machines) (toPlan (desk .machines) (desk .clock) (withNew desk j))
+DeskHolds desk j no-fit = ¬ RoomEverywhere (desk .machines) (jobsWith desk j)
 DeskHolds desk j (not-held n) = ¬ HeldAs desk n
 DeskHolds desk j at-the-end = desk .clock ≡ 100000
 
@@ -197,7 +200,7 @@ deskAnswerOf desk j not-sound = refusal 12 0 0
 deskAnswerOf desk j (asked f) = refusal 4 0 (fieldNumber f)
 deskAnswerOf desk j held-already = refusal 5 0 0
 deskAnswerOf desk j full = refusal 8 0 0
-deskAnswerOf desk j no-fit = deskFit (desk .clock) (leastShort (desk .machines) (toPlan (desk .machines) (desk .clock) (withNew desk j)))
+deskAnswerOf desk j no-fit = deskFit (desk .clock) (leastShort (desk .machines) (jobsWith desk j))
 deskAnswerOf desk j (not-held n) = refusal 10 0 0
 deskAnswerOf desk j at-the-end = refusal 11 0 0
 

@@ -19,9 +19,9 @@ use Rattle.promise.specs.declared.Ran.{Ran}
 use Rattle.promise.specs.Answers.{yes, refusal}
 use Rattle.promise.specs.Order.{GivenBy}
 use Rattle.promise.specs.Rows.{Field}
-use Rattle.promise.specs.Desk.{heldOf, deskOf, asPlanned, toPlan, jobsFor, Sound}
-use Rattle.promise.specs.DeskCalls.{isSound, openOf, withNew, admitAnswer, admitOf, findAnswer, withdrawOf, lookOf, runAnswer, runOf, asked, held-already, full, DeskHolds, deskAnswerOf, admitOrder, findOrder, runOrder}
-use Rattle.promise.specs.History.{Call, answerOf, historyOf, deskAfter, roomOpened, Promised, Owed, answeredFor, ledgerAfter, toFinish}
+use Rattle.promise.specs.Desk.{heldOf, deskOf, asPlanned, jobsFor, Sound}
+use Rattle.promise.specs.DeskCalls.{isSound, openOf, withNew, jobsWith, admitAnswer, admitOf, findAnswer, withdrawOf, lookOf, runAnswer, runOf, asked, held-already, full, DeskHolds, deskAnswerOf, admitOrder, findOrder, runOrder}
+use Rattle.promise.specs.History.{Call, eventAnswer, historyOf, deskAfter, roomOpened, Promised, Owed, answeredFor, ledgerAfter, toFinish}
 
 -- a record has 32 seats
 abbrev pub Seated : Desk → Type 0
@@ -75,7 +75,7 @@ pub record AdmitIsExact (desk : Desk) (j : Job) : Type 0 where
   pub exactly : ((admitAnswer desk j) .number ≡ 7) ↔ (¬ Possible (desk .machines) (map (asPlanned (desk .clock)) (withNew desk j)))
   pub names : (admitAnswer desk j) .number ≡ 7
       → (b : ℕ) × ((admitAnswer desk j) .place ≡ desk .clock + b)
-      × LeastShort (desk .machines) (toPlan (desk .machines) (desk .clock) (withNew desk j)) (record { place = b; amount = (admitAnswer desk j) .amount })
+      × LeastShort (desk .machines) (jobsWith desk j) (record { place = b; amount = (admitAnswer desk j) .amount })
 
 abbrev pub AdmitSevenIsTrue : Type 0
 AdmitSevenIsTrue =
@@ -161,7 +161,7 @@ pub record PromiseKept (machines : ℕ) (calls : List Call) : Type 0 where
   -- and nothing for a number with no work owed to it
   pub nobody-else : (n : ℕ) → ¬ Owed (ledgerAfter machines calls) n → answeredFor n ((runOf (deskAfter machines calls)) .given) ≡ 0
   -- (d) no call answers 12
-  pub sound : All (λ e. (answerOf e) .number ≢ 12) (historyOf machines calls)
+  pub sound : All (λ e. (eventAnswer e) .number ≢ 12) (historyOf machines calls)
   -- (e) an Admit answered 0 or 7 is answered 7 exactly if nothing could finish it with the admissions in force
   pub exact : (j : Job) → (((admitOf (deskAfter machines calls) j) .answer) .number ≡ 0) ⊎ (((admitOf (deskAfter machines calls) j) .answer) .number ≡ 7)
       → (((admitOf (deskAfter machines calls) j) .answer) .number ≡ 7) ↔ (¬ Possible (roomOpened machines) (toFinish (ledgerAfter machines calls) j))

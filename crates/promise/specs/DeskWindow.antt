@@ -59,9 +59,13 @@ outputFault bytes lent written = first (first (recordFault bytes) (soundFault (d
 abbrev pub recordLeft : Answer → Desk → List ℕ → List ℕ
 recordLeft a desk bytes = cond (eqb (a .number) 0) (deskBytes desk) bytes
 
--- on a yes an output buffer starts with these numbers and is as lent after them; in a refusal it is as lent
+-- numbers in place of the first bytes of a buffer, the others as lent
+abbrev pub sentOver : List ℕ → List ℕ → List ℕ
+sentOver numbers lent = sent numbers ++ drop (4 * length numbers) lent
+
+-- an output buffer after a call: these numbers over it on a yes, as lent in a refusal
 abbrev pub outputLeft : Answer → List ℕ → List ℕ → List ℕ
-outputLeft a numbers lent = cond (eqb (a .number) 0) (sent numbers ++ drop (4 * length numbers) lent) lent
+outputLeft a numbers lent = cond (eqb (a .number) 0) (sentOver numbers lent) lent
 
 -- Open: 1, then 6 for a buffer that is not one record long
 unfoldable pub openBytesAnswer : ℕ → List ℕ → Answer

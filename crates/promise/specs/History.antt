@@ -23,11 +23,11 @@ pub data Event : Type 0 where
   withdrew looked : ℕ → Answer → ℕ → Event
   ran : Answer → List Given → Event
 
-abbrev pub answerOf : Event → Answer
-answerOf (admitted j a) = a
-answerOf (withdrew n a left) = a
-answerOf (looked n a left) = a
-answerOf (ran a given) = a
+abbrev pub eventAnswer : Event → Answer
+eventAnswer (admitted j a) = a
+eventAnswer (withdrew n a left) = a
+eventAnswer (looked n a left) = a
+eventAnswer (ran a given) = a
 
 -- one call on a desk
 abbrev pub happens : Desk → Call → Event

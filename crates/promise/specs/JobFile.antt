@@ -53,8 +53,11 @@ groupsLines (g ∷ gs) =
     ∷ groupsLines gs
 
 -- the text of a file: "The first line starts with the bytes "machines=", then a number."
+abbrev pub fileLines : File → List (List ℕ)
+fileLines f = numberLine MachinesLine (f .machines) ∷ groupsLines (f .groups)
+
 unfoldable pub fileText : File → List ℕ
-fileText f = ended (numberLine MachinesLine (f .machines) ∷ groupsLines (f .groups))
+fileText f = ended (fileLines f)
 
 -- a file that can be typed: numbers of at most 7 digits, and labels
 pub record TypedGroup (g : Group) : Type 0 where
@@ -108,25 +111,32 @@ numberTold (some n) = some (n ∷ [])
 unfoldable pub labelTold : List ℕ → Option (List ℕ)
 labelTold text = cond (isLabel text) (some []) none
 
+abbrev pub numberAfter : Option (List ℕ) → Option (List ℕ)
+numberAfter none = none
+numberAfter (some text) = numberTold (readNumber text)
+
+abbrev pub labelAfter : Option (List ℕ) → Option (List ℕ)
+labelAfter none = none
+labelAfter (some text) = labelTold text
+
 abbrev pub told : LineKind → Option (List ℕ) → Option (List ℕ)
-told kind none = none
-told LabelLine (some text) = labelTold text
-told MachinesLine (some text) = numberTold (readNumber text)
-told JobLine (some text) = numberTold (readNumber text)
-told WorkLine (some text) = numberTold (readNumber text)
-told DeadlineLine (some text) = numberTold (readNumber text)
-told BoundLine (some text) = numberTold (readNumber text)
+told LabelLine text = labelAfter text
+told MachinesLine text = numberAfter text
+told JobLine text = numberAfter text
+told WorkLine text = numberAfter text
+told DeadlineLine text = numberAfter text
+told BoundLine text = numberAfter text
 
 unfoldable pub toldBy : LineKind → List ℕ → Option (List ℕ)
 toldBy kind line = told kind (afterKey (key kind) line)
 
-abbrev pub next : LineKind → LineKind
-next MachinesLine = JobLine
-next JobLine = WorkLine
-next WorkLine = DeadlineLine
-next DeadlineLine = BoundLine
-next BoundLine = LabelLine
-next LabelLine = JobLine
+abbrev pub following : LineKind → LineKind
+following MachinesLine = JobLine
+following JobLine = WorkLine
+following WorkLine = DeadlineLine
+following DeadlineLine = BoundLine
+following BoundLine = LabelLine
+following LabelLine = JobLine
 
 -- what a file says: its numbers in their order, or its first bad line
 pub data Said : Type 0 where
@@ -151,7 +161,7 @@ atEnd LabelLine ℓ rest = bad ℓ
 -- the lines from line ℓ on, the first of them of this kind
 abbrev pub linesSay : LineKind → ℕ → List (List ℕ) → List ℕ → Said
 linesSay kind ℓ [] rest = atEnd kind ℓ rest
-linesSay kind ℓ (line ∷ lines) rest = andThen (toldBy kind line) ℓ (linesSay (next kind) (suc ℓ) lines rest)
+linesSay kind ℓ (line ∷ lines) rest = andThen (toldBy kind line) ℓ (linesSay (following kind) (suc ℓ) lines rest)
 
 abbrev pub linesIn : LineKind → ℕ → Lines → Said
 linesIn kind ℓ lines = linesSay kind ℓ (lines .whole) (lines .rest)

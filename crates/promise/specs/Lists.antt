@@ -13,7 +13,7 @@ use Rattle.model.specs.Rule.{planRows}
 use Rattle.promise.specs.declared.Answer.{Answer}
 use Rattle.promise.specs.declared.RoomAnswer.{RoomAnswer}
 use Rattle.promise.specs.Answers.{refusal, fault, first, fitAnswer}
-use Rattle.promise.specs.Rows.{rowAt, rowCount, jobsOf, fieldNumber, listWindow, OutOfRange, Test, machine-count, list-length, row-count, field, seen, plan-buffer, fit, boundary, listFault, listOrder}
+use Rattle.promise.specs.Rows.{rowAt, rowCount, jobsOf, fieldNumber, listDues, OutOfRange, Test, machine-count, list-length, row-count, field, seen, plan-buffer, fit, boundary, listFault, listOrder}
 
 -- the list that is planned: its jobs as they count in a room of so many machines
 unfoldable pub planned : ℕ → List ℕ → List Job
@@ -24,7 +24,7 @@ abbrev pub Holds : ℕ → List ℕ → Test → Type 0
 Holds machines rows machine-count = (machines < 1) ⊎ (64 < machines)
 Holds machines rows list-length = length rows % 4 ≢ 0
 Holds machines rows row-count = 32 < rowCount rows
-Holds machines rows (field i f) = OutOfRange listWindow f (rowAt rows i)
+Holds machines rows (field i f) = OutOfRange listDues f (rowAt rows i)
 Holds machines rows (seen i) = (k : ℕ) × (k < i) × ((rowAt rows k) .number ≡ (rowAt rows i) .number)
 Holds machines rows (plan-buffer size) = size < 168 * rowCount rows
 Holds machines rows fit = ¬ RoomEverywhere machines (planned machines rows)

@@ -47,29 +47,29 @@ fieldOf the-deadline j = j .deadline
 fieldOf the-bound j = j .bound
 
 -- the least and the greatest deadline that is in range: 1 and 168 in a list, others on a desk
-pub record Window : Type 0 where
+pub record DueRange : Type 0 where
   pub from : ℕ
   pub to : ℕ
 
-abbrev pub listWindow : Window
-listWindow = record { from = 1; to = 168 }
+abbrev pub listDues : DueRange
+listDues = record { from = 1; to = 168 }
 
 -- 01's table of quantities
-abbrev pub least : Window → Field → ℕ
-least w the-number = 1
-least w the-work = 1
-least w the-deadline = w .from
-least w the-bound = 1
+abbrev pub least : DueRange → Field → ℕ
+least dues the-number = 1
+least dues the-work = 1
+least dues the-deadline = dues .from
+least dues the-bound = 1
 
-abbrev pub greatest : Window → Field → ℕ
-greatest w the-number = 65535
-greatest w the-work = 60000
-greatest w the-deadline = w .to
-greatest w the-bound = 64
+abbrev pub greatest : DueRange → Field → ℕ
+greatest dues the-number = 65535
+greatest dues the-work = 60000
+greatest dues the-deadline = dues .to
+greatest dues the-bound = 64
 
 -- "a field out of range"
-abbrev pub OutOfRange : Window → Field → Job → Type 0
-OutOfRange w f j = (fieldOf f j < least w f) ⊎ (greatest w f < fieldOf f j)
+abbrev pub OutOfRange : DueRange → Field → Job → Type 0
+OutOfRange dues f j = (fieldOf f j < least dues f) ⊎ (greatest dues f < fieldOf f j)
 
 -- the tests of a list; a test of the plan's buffer or of a boundary has what it looks at with it
 pub data Test : Type 0 where
@@ -81,13 +81,13 @@ pub data Test : Type 0 where
   boundary : ℕ → Test
 
 -- the same tests as an answer for one field, one row, all rows
-unfoldable pub fieldFault : Window → ℕ → Field → Job → Answer
-fieldFault w place f j = fault (ltb (fieldOf f j) (least w f) || ltb (greatest w f) (fieldOf f j)) (refusal 4 place (fieldNumber f))
+unfoldable pub fieldFault : DueRange → ℕ → Field → Job → Answer
+fieldFault dues place f j = fault (ltb (fieldOf f j) (least dues f) || ltb (greatest dues f) (fieldOf f j)) (refusal 4 place (fieldNumber f))
 
-unfoldable pub fieldsFault : Window → ℕ → Job → Answer
-fieldsFault w place j =
-    first (fieldFault w place the-number j)
-    (first (fieldFault w place the-work j) (first (fieldFault w place the-deadline j) (fieldFault w place the-bound j)))
+unfoldable pub fieldsFault : DueRange → ℕ → Job → Answer
+fieldsFault dues place j =
+    first (fieldFault dues place the-number j)
+    (first (fieldFault dues place the-work j) (first (fieldFault dues place the-deadline j) (fieldFault dues place the-bound j)))
 
 -- n is the number of one of the rows before row i
 abbrev pub seenBefore : List ℕ → ℕ → ℕ → Bool
@@ -98,9 +98,12 @@ unfoldable pub seenFault : List ℕ → ℕ → Answer
 seenFault rows i = fault (seenBefore rows ((rowAt rows i) .number) i) (refusal 5 i 0)
 
 -- "row by row from 0 (fields in order, then 5)"
+unfoldable pub rowFault : List ℕ → ℕ → Answer
+rowFault rows i = first (fieldsFault listDues i (rowAt rows i)) (seenFault rows i)
+
 abbrev pub rowsFault : List ℕ → ℕ → ℕ → Answer
 rowsFault rows i zero = yes
-rowsFault rows i (suc n) = first (first (fieldsFault listWindow i (rowAt rows i)) (seenFault rows i)) (rowsFault rows (suc i) n)
+rowsFault rows i (suc n) = first (rowFault rows i) (rowsFault rows (suc i) n)
 
 unfoldable pub countFault : ℕ → Answer
 countFault machines = fault (ltb machines 1 || ltb 64 machines) (refusal 1 0 0)

@@ -8,13 +8,13 @@ use lib.ListN.{length, replicate}
 use Rattle.model.specs.Jobs.{Job}
 use Rattle.promise.specs.declared.Answer.{Answer}
 use Rattle.promise.specs.declared.Desk.{Desk}
-use Rattle.promise.specs.declared.Given.{Given}
 use Rattle.promise.specs.Answers.{yes, refusal}
 use Rattle.promise.specs.Rows.{rowCount}
 use Rattle.promise.specs.Lists.{planAnswer, planBuffer, roomAnswer, roomFigure}
 use Rattle.promise.specs.Desk.{deskOf}
-use Rattle.promise.specs.DeskCalls.{openOf, admitOf, withdrawOf, lookOf, runOf, pairs}
+use Rattle.promise.specs.DeskCalls.{openOf, admitOf, withdrawOf, lookOf, runOf}
 use Rattle.promise.specs.History.{Call, admit, withdraw, look, run, returned, deskAfter}
+use Rattle.promise.specs.DeskWindow.{lookNumbers, pairNumbers}
 use Rattle.promise.specs.Texts.{ascii, padded}
 use Rattle.promise.specs.PlanText.{planText}
 
@@ -40,18 +40,11 @@ pub data Outcome : Type 0 where
 abbrev pub answered : Answer → List ℕ → Told
 answered answer figures = record { answer = answer; figures = figures }
 
-abbrev pub numbersGiven : List Given → List ℕ
-numbersGiven [] = []
-numbersGiven (g ∷ given) = g .number ∷ g .machines ∷ numbersGiven given
-
 abbrev pub callTells : Desk → Call → Told
 callTells d (admit j) = record { answer = (admitOf d j) .answer; figures = [] }
 callTells d (withdraw n) = record { answer = (withdrawOf d n) .answer; figures = (withdrawOf d n) .left ∷ [] }
-callTells d (look n) = record {
-  answer = (lookOf d n) .answer;
-  figures = (lookOf d n) .left ∷ (lookOf d n) .deadline ∷ (lookOf d n) .bound ∷ (lookOf d n) .leeway ∷ [];
-}
-callTells d run = record { answer = (runOf d) .answer; figures = numbersGiven ((runOf d) .given) }
+callTells d (look n) = record { answer = (lookOf d n) .answer; figures = lookNumbers (lookOf d n) }
+callTells d run = record { answer = (runOf d) .answer; figures = flatten (map pairNumbers ((runOf d) .given)) }
 
 abbrev pub callsTell : Desk → List Call → List Told
 callsTell d [] = []

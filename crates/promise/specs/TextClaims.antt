@@ -30,10 +30,6 @@ NumbersArePrintedBack =
     → ((n : ℕ) → readNumber bytes ≡ some n → NumberText bytes × (n < 10000000) × (decimal n ≡ bytes))
     × (readNumber bytes ≡ none → ¬ NumberText bytes)
 
--- a refused reading: "A call's other figures are 0 in a refusal"
-abbrev pub nothing : Answer → Reading
-nothing a = record { answer = a; machines = 0; groups = 0; rows = replicate 128 0 }
-
 -- J: what the reader answers, for every run of bytes
 pub record Read (bytes : List ℕ) : Type 0 where
   pub fourteen : ((readingOf bytes) .answer ≡ refusal 14 0 0) ↔ (4096 < length bytes)
@@ -42,8 +38,10 @@ pub record Read (bytes : List ℕ) : Type 0 where
   pub as-typed : length bytes ≤ 4096 → (f : File) → Typed f → fileText f ≡ bytes
       → readingOf bytes ≡ record { answer = answers.yes; machines = f .machines; groups = length (f .groups); rows = padded 128 (numbersOf (f .groups)) }
   pub thirteen : length bytes ≤ 4096 → (ℓ : ℕ) → ((readingOf bytes) .answer ≡ refusal 13 ℓ 0) ↔ BadLine bytes ℓ
-  -- there is no other answer, and a refusal has no figures
-  pub one-of-these : ((readingOf bytes) .answer ≡ answers.yes) ⊎ ((ℓ : ℕ) × (readingOf bytes ≡ nothing (refusal 13 ℓ 0))) ⊎ (readingOf bytes ≡ nothing (refusal 14 0 0))
+  -- there is no other answer, and "A call's other figures are 0 in a refusal"
+  pub one-of-these : ((readingOf bytes) .answer ≡ answers.yes) ⊎ ((ℓ : ℕ) × ((readingOf bytes) .answer ≡ refusal 13 ℓ 0)) ⊎ ((readingOf bytes) .answer ≡ refusal 14 0 0)
+  pub no-figures : ((readingOf bytes) .answer) .number ≢ 0
+      → ((readingOf bytes) .machines ≡ 0) × ((readingOf bytes) .groups ≡ 0) × ((readingOf bytes) .rows ≡ replicate 128 0)
 
 abbrev pub FileIsRead : Type 0
 FileIsRead = (bytes : List ℕ) → Read bytes

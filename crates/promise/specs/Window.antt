@@ -12,9 +12,13 @@ use Rattle.promise.specs.Answers.{refusal, fault, first}
 use Rattle.promise.specs.Rows.{rowCount, countFault}
 use Rattle.promise.specs.Lists.{planned, planAnswer, planBuffer, roomAnswer, roomFigure}
 
+-- four bytes as a number, lowest first
+abbrev pub fourOf : ℕ → ℕ → ℕ → ℕ → ℕ
+fourOf a b c d = a + 256 * b + 65536 * c + 16777216 * d
+
 -- "4 for a list number": the number of the four bytes at 4 × i
 unfoldable pub wordAt : List ℕ → ℕ → ℕ
-wordAt bytes i = getD bytes (4 * i) 0 + 256 * getD bytes (4 * i + 1) 0 + 65536 * getD bytes (4 * i + 2) 0 + 16777216 * getD bytes (4 * i + 3) 0
+wordAt bytes i = fourOf (getD bytes (4 * i) 0) (getD bytes (4 * i + 1) 0) (getD bytes (4 * i + 2) 0) (getD bytes (4 * i + 3) 0)
 
 abbrev pub wordsFrom : List ℕ → ℕ → ℕ → List ℕ
 wordsFrom bytes i zero = []
@@ -41,11 +45,13 @@ bytesFault machines list = first (countFault machines) (fault (not (eqb (length 
 unfoldable pub windowAnswer : ℕ → List ℕ → ℕ → Answer
 windowAnswer machines list size = first (bytesFault machines list) (planAnswer machines (wordsOf list) (size / 2))
 
+-- the lent bytes after an answer about the numbers of a list: its plan and what was lent beyond, or all as lent
+abbrev pub bytesLeft : Answer → ℕ → List ℕ → List ℕ → List ℕ
+bytesLeft a machines rows lent =
+    cond (eqb (a .number) 0) (bytesOf (flatten (planRows machines (planned machines rows))) ++ drop (336 * rowCount rows) lent) lent
+
 unfoldable pub windowBuffer : ℕ → List ℕ → List ℕ → List ℕ
-windowBuffer machines list lent =
-    cond (eqb ((windowAnswer machines list (length lent)) .number) 0)
-    (bytesOf (flatten (planRows machines (planned machines (wordsOf list)))) ++ drop (336 * rowCount (wordsOf list)) lent)
-    lent
+windowBuffer machines list lent = bytesLeft (windowAnswer machines list (length lent)) machines (wordsOf list) lent
 
 -- "number + 256 × place + 2^32 × amount as 64 bits"
 unfoldable pub pack : Answer → ℕ

@@ -14,10 +14,10 @@ use Rattle.figures.proofs.Tables.{drop-none}
 use Rattle.promise.specs.declared.Held.{Held}
 use Rattle.promise.specs.declared.Desk.{Desk}
 use Rattle.promise.specs.Window.{wordAt, sent}
-use Rattle.promise.specs.DeskWindow.{seatNumbers, deskNumbers, deskBytes, seatAt, seatsFrom, deskRead}
+use Rattle.promise.specs.DeskWindow.{seatNumbers, deskNumbers, deskBytes, seatAt, seatsFrom, deskRead, sentOver}
 use Rattle.promise.proofs.Words.{sent-length}
 use Rattle.promise.proofs.DeskRecord.{each-length}
-use Rattle.record.specs.Bytes.{wordSet, wordsSet, sentOver}
+use Rattle.record.specs.Bytes.{wordSet, wordsSet}
 
 -- ---- numbers written one after the other
 

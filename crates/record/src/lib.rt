@@ -8,9 +8,9 @@ ghost use mathlib.Core.Path.{_≡_};
 ghost use mathlib.Core.List.{map, flatten};
 ghost use Prim.Native.Nat.{_+_, _*_, _≤_, _<_};
 ghost use lib.ListN.{length};
-ghost use Rattle.promise.specs.Window.{wordAt};
-ghost use Rattle.promise.specs.DeskWindow.{seatNumbers, deskBytes, seatAt, deskRead, recordLeft, outputLeft, lookNumbers, pairNumbers};
-ghost use Rattle.record.specs.Bytes.{fourOf, wordSet, wordsSet, sentOver};
+ghost use Rattle.promise.specs.Window.{fourOf, wordAt};
+ghost use Rattle.promise.specs.DeskWindow.{seatNumbers, deskBytes, seatAt, deskRead, recordLeft, sentOver, outputLeft, lookNumbers, pairNumbers};
+ghost use Rattle.record.specs.Bytes.{wordSet, wordsSet};
 
 // The number of four bytes, lowest first.
 pub fn four(a: u8, b: u8, c: u8, d: u8) -> u32

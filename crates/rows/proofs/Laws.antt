@@ -11,7 +11,7 @@ use Rattle.model.specs.Jobs as Model
 use Rattle.model.specs.Jobs.{width, counted}
 use Rattle.promise.specs.declared.Answer.{Answer}
 use Rattle.promise.specs.Answers.{yes, refusal, first}
-use Rattle.promise.specs.Rows.{rowAt, rowCount, jobRows, jobsOf, listWindow, fieldFault, fieldsFault, seenBefore, seenFault, rowsFault, countFault, lengthFault, manyFault, listFault}
+use Rattle.promise.specs.Rows.{rowAt, rowCount, jobRows, jobsOf, listDues, fieldFault, fieldsFault, seenBefore, seenFault, rowFault, rowsFault, countFault, lengthFault, manyFault, listFault}
 use Rattle.promise.specs.Lists.{planned}
 use Rattle.figures.specs.declared.Job.{Job}
 use Rattle.figures.specs.Jobs.{asJob}
@@ -19,7 +19,7 @@ use Rattle.figures.proofs.Tables.{first-none, set-next, drop-none}
 use Rattle.promise.proofs.Ladder.{first-stop, first-past}
 use Rattle.walk.specs.declared.Jobs.{Jobs}
 use Rattle.walk.specs.Walk.{asJobs}
-use Rattle.rows.specs.Rows.{windowOf, rangeFault, rowFault, rowsFaults}
+use Rattle.rows.specs.Rows.{duesOf, rangeFault}
 
 -- one value and its range, test by test
 module _ (place field value least greatest : ℕ) where
@@ -47,26 +47,26 @@ module _ (from to place : ℕ) (j : Model.Job) where
   bound-fault = rangeFault place 4 (j .bound) 1 64
 
   module _ (a : Answer) (ea : a ≡ number-fault) where
-    pub fault-in-number : a .number ≢ 0 → a ≡ fieldsFault (windowOf from to) place j
+    pub fault-in-number : a .number ≢ 0 → a ≡ fieldsFault (duesOf from to) place j
     unfolding fieldsFault fieldFault
     fault-in-number h = first-stop a number-fault (first work-fault (first deadline-fault bound-fault)) ea h
 
     module _ (za : a .number ≡ 0) (b : Answer) (eb : b ≡ work-fault) where
-      after-number : (r : Answer) → r ≡ first work-fault (first deadline-fault bound-fault) → r ≡ fieldsFault (windowOf from to) place j
+      after-number : (r : Answer) → r ≡ first work-fault (first deadline-fault bound-fault) → r ≡ fieldsFault (duesOf from to) place j
       unfolding fieldsFault fieldFault
       after-number r e = first-past a number-fault (first work-fault (first deadline-fault bound-fault)) r ea za e
 
-      pub fault-in-work : b .number ≢ 0 → b ≡ fieldsFault (windowOf from to) place j
+      pub fault-in-work : b .number ≢ 0 → b ≡ fieldsFault (duesOf from to) place j
       fault-in-work h = after-number b (first-stop b work-fault (first deadline-fault bound-fault) eb h)
 
       module _ (zb : b .number ≡ 0) (c : Answer) (ec : c ≡ deadline-fault) where
-        after-work : (r : Answer) → r ≡ first deadline-fault bound-fault → r ≡ fieldsFault (windowOf from to) place j
+        after-work : (r : Answer) → r ≡ first deadline-fault bound-fault → r ≡ fieldsFault (duesOf from to) place j
         after-work r e = after-number r (first-past b work-fault (first deadline-fault bound-fault) r eb zb e)
 
-        pub fault-in-deadline : c .number ≢ 0 → c ≡ fieldsFault (windowOf from to) place j
+        pub fault-in-deadline : c .number ≢ 0 → c ≡ fieldsFault (duesOf from to) place j
         fault-in-deadline h = after-work c (first-stop c deadline-fault bound-fault ec h)
 
-        pub fault-in-bound : c .number ≡ 0 → (d : Answer) → d ≡ bound-fault → d ≡ fieldsFault (windowOf from to) place j
+        pub fault-in-bound : c .number ≡ 0 → (d : Answer) → d ≡ bound-fault → d ≡ fieldsFault (duesOf from to) place j
         fault-in-bound zc d ed = after-work d (first-past c deadline-fault bound-fault d ec zc ed)
 
 -- a number that is looked for downwards, from row k on
@@ -94,13 +94,13 @@ module _ (rows : List ℕ) where
     row-inside i h = omega (arith, rows-few)
 
 -- one row: a is what its fields give, s whether its number stands before it
-module _ (rows : List ℕ) (i : ℕ) (j : Job) (ej : asJob j ≡ rowAt rows i) (a : Answer) (ea : a ≡ fieldsFault (windowOf 1 168) i (asJob j)) where
-  fields-same : a ≡ fieldsFault listWindow i (rowAt rows i)
-  fields-same = ea ∙ ap (fieldsFault listWindow i) ej
+module _ (rows : List ℕ) (i : ℕ) (j : Job) (ej : asJob j ≡ rowAt rows i) (a : Answer) (ea : a ≡ fieldsFault (duesOf 1 168) i (asJob j)) where
+  fields-same : a ≡ fieldsFault listDues i (rowAt rows i)
+  fields-same = ea ∙ ap (fieldsFault listDues i) ej
 
   pub row-fields : a .number ≢ 0 → a ≡ rowFault rows i
   unfolding rowFault
-  row-fields h = first-stop a (fieldsFault listWindow i (rowAt rows i)) (seenFault rows i) fields-same h
+  row-fields h = first-stop a (fieldsFault listDues i (rowAt rows i)) (seenFault rows i) fields-same h
 
   module _ (z : a .number ≡ 0) (s : Bool) (es : s ≡ seenBefore rows (j .number) i) where
     seen-same : s ≡ seenBefore rows ((rowAt rows i) .number) i
@@ -108,7 +108,7 @@ module _ (rows : List ℕ) (i : ℕ) (j : Job) (ej : asJob j ≡ rowAt rows i) (
 
     after-fields : (r : Answer) → r ≡ seenFault rows i → r ≡ rowFault rows i
     unfolding rowFault
-    after-fields r e = first-past a (fieldsFault listWindow i (rowAt rows i)) (seenFault rows i) r fields-same z e
+    after-fields r e = first-past a (fieldsFault listDues i (rowAt rows i)) (seenFault rows i) r fields-same z e
 
     pub row-seen : s ≡ true → refusal 5 i 0 ≡ rowFault rows i
     unfolding seenFault
@@ -120,13 +120,12 @@ module _ (rows : List ℕ) (i : ℕ) (j : Job) (ej : asJob j ≡ rowAt rows i) (
 
 -- the rows from row i on
 module _ (rows : List ℕ) (n : ℕ) where
-  pub rows-start : n ≡ length rows / 4 → rowsFaults rows ≡ rowsFault rows 0 (n - 0)
-  unfolding rowsFaults rowCount
+  pub rows-start : n ≡ length rows / 4 → rowsFault rows 0 (rowCount rows) ≡ rowsFault rows 0 (n - 0)
+  unfolding rowCount
   rows-start e = let f : length rows / 4 ≡ n - 0 = omega arith in ap (rowsFault rows 0) f
 
   module _ (i : ℕ) (a : Answer) (l : i < n) (ea : a ≡ rowFault rows i) where
     row-turn : rowsFault rows i (n - i) ≡ first (rowFault rows i) (rowsFault rows (suc i) (n - suc i))
-    unfolding rowFault
     row-turn = let e : n - i ≡ suc (n - suc i) = omega arith in ap (rowsFault rows i) e
 
     pub rows-stop : a .number ≢ 0 → a ≡ rowsFault rows i (n - i)
@@ -170,8 +169,8 @@ module _ (machines : ℕ) (rows : List ℕ) (count : Answer) (e : count ≡ coun
           first-past count (countFault machines) _ (refusal 3 0 0) e counted-right
           (rw (eq-eqb (length rows % 4) 0 whole, lt-ltb 32 (length rows / 4) h) refl)
 
-      pub rows-only : length rows / 4 ≤ 32 → (a : Answer) → a ≡ rowsFaults rows → a ≡ listFault machines rows
-      unfolding listFault lengthFault manyFault rowCount rowsFaults
+      pub rows-only : length rows / 4 ≤ 32 → (a : Answer) → a ≡ rowsFault rows 0 (rowCount rows) → a ≡ listFault machines rows
+      unfolding listFault lengthFault manyFault rowCount
       rows-only h a f =
           first-past count (countFault machines) _ a e counted-right
           (rw (eq-eqb (length rows % 4) 0 whole, le-ltb 32 (length rows / 4) h) f)

@@ -8,9 +8,9 @@ ghost use lib.ListN.{length};
 ghost use Rattle.figures.specs.Jobs.{asJob};
 ghost use Rattle.walk.specs.Walk.{asJobs};
 ghost use Rattle.promise.specs.Answers.{yes, refusal};
-ghost use Rattle.promise.specs.Rows.{rowAt, rowCount, fieldsFault, seenBefore, countFault, listFault};
+ghost use Rattle.promise.specs.Rows.{rowAt, rowCount, fieldsFault, seenBefore, rowFault, rowsFault, countFault, listFault};
 ghost use Rattle.promise.specs.Lists.{planned};
-ghost use Rattle.rows.specs.Rows.{rangeFault, windowOf, rowFault, rowsFaults};
+ghost use Rattle.rows.specs.Rows.{rangeFault, duesOf};
 
 pub fn accept() -> Answer
     ensures { λ r. ⌜ r ≡ yes ⌝ }
@@ -47,7 +47,7 @@ pub fn range_fault(place: u32, field: u32, value: u32, least: u32, greatest: u32
 
 // The first field of a job that is out of range; the deadline's range is from .. to.
 pub fn fields_fault(place: u32, j: Job, from: u32, to: u32) -> Answer
-    ensures { λ r. ⌜ r ≡ fieldsFault (windowOf from to) place (asJob j) ⌝ }
+    ensures { λ r. ⌜ r ≡ fieldsFault (duesOf from to) place (asJob j) ⌝ }
 {
     let number = range_fault(place, 1, j.number, 1, 65535);
     if number.number != 0 {
@@ -113,7 +113,7 @@ pub fn row_fault(rows: &[u32], i: usize) -> Answer
 // The first fault of the rows, row by row from 0.
 pub fn rows_fault(rows: &[u32]) -> Answer
     requires { ⌜ rowCount (now rows) ≤ 32 ⌝ }
-    ensures { λ r. ⌜ r ≡ rowsFaults (now (rows .entry)) ⌝ }
+    ensures { λ r. ⌜ r ≡ rowsFault (now (rows .entry)) 0 (rowCount (now (rows .entry))) ⌝ }
 {
     let n = rows.len() / 4;
     let mut i: usize = 0;

@@ -22,7 +22,7 @@ use Rattle.rule.specs.declared.Share.{Share}
 use Rattle.rule.specs.declared.Table.{Table}
 use Rattle.rule.specs.declared.Chosen.{Chosen}
 use Rattle.rule.specs.declared.Chosen.the-variants.{Nothing, At}
-use Rattle.rule.specs.Shares.{asShare, sharesOf, bumped, cleared, Ready, either, chooseOf, pickFrom}
+use Rattle.rule.specs.Shares.{asShare, sharesOf, bumped, cleared, Ready, chooseOf, pickFrom}
 
 -- a share that qualifies, test by test
 module _ (t : ℕ) (p : Model.Share) where
@@ -70,7 +70,7 @@ module _ (i : ℕ) (p : Share) (best : Chosen) where
 -- one turn of the search, downwards
 module _ (t n i : ℕ) (l : List Share) (d : Share) (hi : i < n) (hn : n ≤ length l) (b : Bool) (eb : b ≡ qualifies t (asShare (getD l i d))) where
   turn : pickFrom t i (drop i (take n l))
-      ≡ either b (chooseOf i (getD l i d) (pickFrom t (suc i) (drop (suc i) (take n l)))) (pickFrom t (suc i) (drop (suc i) (take n l)))
+      ≡ cond b (chooseOf i (getD l i d) (pickFrom t (suc i) (drop (suc i) (take n l)))) (pickFrom t (suc i) (drop (suc i) (take n l)))
   turn =
       ap (pickFrom t i) (drop-cons (take n l) i d (omega (arith, length-take-le n l hn)) ∙ ap (λ (p : Share). p ∷ drop (suc i) (take n l)) (getD-take n l i d hi))
       ∙ rw (← eb) refl
@@ -98,7 +98,7 @@ unfolding chooseOf
 choose-same i p Nothing = refl
 choose-same i p (At k q) = go (before (asShare p) (asShare q))
   where
-    go : (b : Bool) → asOption (either b (At i p) (At k q)) ≡ some (cond b (asShare p) (asShare q))
+    go : (b : Bool) → asOption (cond b (At i p) (At k q)) ≡ some (cond b (asShare p) (asShare q))
     go true = refl
     go false = refl
 
@@ -107,7 +107,7 @@ pick-same t i [] = refl
 pick-same t i (p ∷ ps) = go (qualifies t (asShare p)) (pick-same t (suc i) ps)
   where
     go : (b : Bool) → asOption (pickFrom t (suc i) ps) ≡ next t (map asShare ps)
-        → asOption (either b (chooseOf i p (pickFrom t (suc i) ps)) (pickFrom t (suc i) ps)) ≡ cond b (choose (asShare p) (next t (map asShare ps))) (next t (map asShare ps))
+        → asOption (cond b (chooseOf i p (pickFrom t (suc i) ps)) (pickFrom t (suc i) ps)) ≡ cond b (choose (asShare p) (next t (map asShare ps))) (next t (map asShare ps))
     go true e = choose-same i p (pickFrom t (suc i) ps) ∙ ap (choose (asShare p)) e
     go false e = e
 
@@ -139,11 +139,11 @@ stands-pick t i (p ∷ ps) = go (qualifies t (asShare p)) refl (pickFrom t (suc 
     here : qualifies t (asShare p) ≡ true → Stands t i (p ∷ ps) i p
     here e = record { from = omega arith; to = omega arith; there = λ d. let z : i - i ≡ 0 = omega arith in rw z; open′ = e }
 
-    two : qualifies t (asShare p) ≡ true → (k : ℕ) (q : Share) → Stands t (suc i) ps k q → (b : Bool) → Standing t i (p ∷ ps) (either b (At i p) (At k q))
+    two : qualifies t (asShare p) ≡ true → (k : ℕ) (q : Share) → Stands t (suc i) ps k q → (b : Bool) → Standing t i (p ∷ ps) (cond b (At i p) (At k q))
     two e k q s true = here e
     two e k q s false = stands-later t i p ps (At k q) s
 
-    go : (b : Bool) → qualifies t (asShare p) ≡ b → (c : Chosen) → Standing t (suc i) ps c → Standing t i (p ∷ ps) (either b (chooseOf i p c) c)
+    go : (b : Bool) → qualifies t (asShare p) ≡ b → (c : Chosen) → Standing t (suc i) ps c → Standing t i (p ∷ ps) (cond b (chooseOf i p c) c)
     go true e Nothing s = here e
     go true e (At k q) s = two e k q s (before (asShare p) (asShare q))
     go false e c s = stands-later t i p ps c s

@@ -1,6 +1,6 @@
 -- The shares of the code as shares of the model, and each step of the code as a function.
 use Prim.Native.Nat.{ℕ, suc, _+_, _-_, _<_}
-use mathlib.Core.Bool.{Bool, true, false}
+use mathlib.Core.Bool.{cond}
 use mathlib.Core.List.{List, [], _∷_, map}
 use lib.ListN.{take}
 use Rattle.model.specs.Lists.{Distinct}
@@ -35,16 +35,12 @@ pub record Ready (p : Share) : Type 0 where
   pub more : 0 < p .left
   pub below : p .given < p .job .bound
 
-abbrev pub either : Bool → Chosen → Chosen → Chosen
-either true a b = a
-either false a b = b
-
 -- of a share at its index and the choice so far, the one that goes before the other
 unfoldable pub chooseOf : ℕ → Share → Chosen → Chosen
 chooseOf i p Nothing = At i p
-chooseOf i p (At k q) = either (before (asShare p) (asShare q)) (At i p) (At k q)
+chooseOf i p (At k q) = cond (before (asShare p) (asShare q)) (At i p) (At k q)
 
 -- the choice among shares, of which the first stands at index i
 abbrev pub pickFrom : ℕ → ℕ → List Share → Chosen
 pickFrom t i [] = Nothing
-pickFrom t i (p ∷ ps) = either (qualifies t (asShare p)) (chooseOf i p (pickFrom t (suc i) ps)) (pickFrom t (suc i) ps)
+pickFrom t i (p ∷ ps) = cond (qualifies t (asShare p)) (chooseOf i p (pickFrom t (suc i) ps)) (pickFrom t (suc i) ps)

@@ -8,15 +8,15 @@ use mathlib.Core.Bool.{Bool, true, false, cond, _||_}
 use mathlib.Core.List.{List, [], _∷_, _++_, append-nil, append-assoc}
 use lib.Dec.{ltb, eqb}
 use lib.ListN.{length, getD, take, drop, set, replicate, length-append, length-drop, take-append-drop, replicate-append-replicate, List·getD-append}
-use lib.Seq.{drop-cons, drop-length, set-at, take-suc, append-snoc, getD-at, getD-append-add, getD-drop, getD-take, length-take-le, take-all, take-at, take-append-seam, take-append-add}
+use lib.Seq.{drop-cons, drop-length, set-at, take-suc, append-snoc, getD-at, getD-append-add, getD-drop, getD-take, length-take-le, take-all, take-at, take-append-add}
 use borrow.Author.Tests.{lt-ltb, le-ltb, eq-eqb, ne-eqb}
 use Rattle.promise.specs.declared.Held.{Held}
 use Rattle.promise.specs.declared.Desk.{Desk}
-use Rattle.promise.specs.Desk.{unused, heldOf, table, deskOf}
+use Rattle.promise.specs.Desk.{unused, table, deskOf}
 use Rattle.promise.specs.DeskCalls.{isHeld, seatOf, seated, without}
 use Rattle.promise.proofs.DeskSeats.{length-seated}
 use Rattle.seats.specs.declared.Found.the-variants.{Nothing, At}
-use Rattle.seats.specs.Seats.{either, findIn, rankIn}
+use Rattle.seats.specs.Seats.{findIn, rankIn}
 
 -- ---- the search, from index i on, among the first n
 
@@ -167,20 +167,6 @@ module _ (l : List Held) (at : ℕ) (ha : at < length l) where
 
 -- ---- the table of held jobs
 
-pub held-first : (desk : Desk) → desk .seats ≡ table (heldOf desk) → take (length (heldOf desk)) (desk .seats) ≡ heldOf desk
-unfolding table
-held-first desk e =
-    ap (λ (x : List Held). take (length (heldOf desk)) x) e
-    ∙ take-append-seam (heldOf desk) (replicate (32 - length (heldOf desk)) unused)
-
--- 32 seats hold at most 32 jobs
-pub few-held : (desk : Desk) → desk .seats ≡ table (heldOf desk) → length (desk .seats) ≡ 32 → length (heldOf desk) ≤ 32
-unfolding table
-few-held desk e l =
-    let k : length (desk .seats) ≡ length (heldOf desk) + length (replicate (32 - length (heldOf desk)) unused) =
-    ap (λ (x : List Held). length x) e ∙ length-append (heldOf desk) (replicate (32 - length (heldOf desk)) unused) in
-    omega arith
-
 pub rank-within : (n : ℕ) (held : List Held) → rankIn n held ≤ length held
 rank-within n [] = omega arith
 rank-within n (g ∷ gs) = go (ltb n (g .number)) (rank-within n gs)
@@ -230,7 +216,7 @@ found-where : (n j at : ℕ) (held : List Held) → findIn n j held ≡ At at �
 found-where n j at [] e = absurd (let z : _≡_ {A = ℕ} 0 1 = cc in omega arith)
 found-where n j at (h ∷ hs) e = go (eqb (h .number) n) (λ q. found-where n (suc j) at hs q) e
   where
-    go : (t : Bool) → (findIn n (suc j) hs ≡ At at → Where n (suc j) at hs) → either t (At j) (findIn n (suc j) hs) ≡ At at
+    go : (t : Bool) → (findIn n (suc j) hs ≡ At at → Where n (suc j) at hs) → cond t (At j) (findIn n (suc j) hs) ≡ At at
         → (k : ℕ) × (at ≡ k + j) × (k < suc (length hs)) × ((t || isHeld n hs) ≡ true) × ((d : Held) → getD (h ∷ hs) k d ≡ cond t h (seatOf n hs))
         × (suc (length (cond t hs (h ∷ without n hs))) ≡ suc (length hs))
         × ((zs ys : List Held) → take k (h ∷ hs ++ zs) ++ (drop (suc k) (h ∷ hs ++ zs) ++ ys) ≡ cond t hs (h ∷ without n hs) ++ (zs ++ ys))
@@ -245,7 +231,7 @@ not-found : (n j : ℕ) (held : List Held) → findIn n j held ≡ Nothing → i
 not-found n j [] e = refl
 not-found n j (h ∷ hs) e = go (eqb (h .number) n) (λ q. not-found n (suc j) hs q) e
   where
-    go : (t : Bool) → (findIn n (suc j) hs ≡ Nothing → isHeld n hs ≡ false) → either t (At j) (findIn n (suc j) hs) ≡ Nothing → (t || isHeld n hs) ≡ false
+    go : (t : Bool) → (findIn n (suc j) hs ≡ Nothing → isHeld n hs ≡ false) → cond t (At j) (findIn n (suc j) hs) ≡ Nothing → (t || isHeld n hs) ≡ false
     go true i e = absurd (let z : _≡_ {A = ℕ} 0 1 = cc in omega arith)
     go false i e = i e
 

@@ -6,7 +6,7 @@ use mathlib.Core.Logic.{_≢_}
 use mathlib.Core.Bool.{Bool, true, false, cond, _&&_}
 use mathlib.Core.List.{List, [], _∷_, map}
 use lib.Dec.{leb, ltb, eqb}
-use lib.ListN.{length, getD, take, drop, set, length-take}
+use lib.ListN.{length, getD, take, drop, set}
 use lib.Seq.{drop-cons, drop-length}
 use borrow.Author.Tests.{lt-ltb, le-ltb, le-leb, eq-eqb, ne-eqb, leb-true}
 use Rattle.model.specs.Lists.{All}
@@ -19,6 +19,7 @@ use Rattle.promise.specs.declared.Held.{Held}
 use Rattle.promise.specs.declared.Desk.{Desk}
 use Rattle.promise.specs.Desk.{inUse, heldOf, asPlanned, toPlan, jobsFor}
 use Rattle.promise.specs.DeskCalls.{seatOk, seatFits, isUnused, allUnused, seatsOk, noneShort, isSound}
+use Rattle.promise.proofs.DeskSeats.{held-first}
 use Rattle.figures.specs.declared.Job.{Job}
 use Rattle.figures.specs.Jobs.{asJob}
 use Rattle.figures.proofs.Tables.{first-none, first-next, set-next, drop-none}
@@ -87,15 +88,6 @@ module _ (machines clock n : ℕ) (seats : List Held) where
   unfolding asJobs
   load-end i r z f = ap (map asJob) (sym (drop-none (take n (r .jobs)) i z)) ∙ f ∙ ap (toPlan machines clock) (drop-none (take n seats) i z)
 
--- the seats in use are the first ones
-used-first : (l : List Held) → inUse l ≡ take (length (inUse l)) l
-used-first [] = refl
-used-first (h ∷ hs) = go (eqb (h .number) 0) (used-first hs)
-  where
-    go : (t : Bool) → inUse hs ≡ take (length (inUse hs)) hs → cond t [] (h ∷ inUse hs) ≡ take (length (cond t [] (h ∷ inUse hs))) (h ∷ hs)
-    go true e = refl
-    go false e = ap (λ (m : List Held). h ∷ m) e
-
 -- a seat that is as it must be is in range for planning
 seat-tests : (a b c d e f g h : Bool) → a && b && c && d && e && f && g && h ≡ true → (c ≡ true) × (e ≡ true) × (h ≡ true)
 seat-tests a b c d e f g h t =
@@ -143,16 +135,12 @@ module _ (machines clock : ℕ) where
 
 -- the jobs that are held
 module _ (desk : Desk) (n : ℕ) (en : n ≡ length (heldOf desk)) where
-  pub held-few : length (desk .seats) ≡ 32 → n ≤ 32
-  unfolding heldOf
-  held-few l = omega (arith, length-take (length (inUse (desk .seats))) (desk .seats), ap (λ (m : List Held). length m) (used-first (desk .seats)))
-
   module _ (list : Jobs) (ej : asJobs n list ≡ toPlan (desk .machines) (desk .clock) (take n (desk .seats))) where
     held-jobs : asJobs n list ≡ jobsFor desk
-    unfolding jobsFor heldOf
+    unfolding jobsFor
     held-jobs =
         ej ∙ ap (λ (k : ℕ). toPlan (desk .machines) (desk .clock) (take k (desk .seats))) en
-        ∙ ap (toPlan (desk .machines) (desk .clock)) (sym (used-first (desk .seats)))
+        ∙ ap (toPlan (desk .machines) (desk .clock)) (held-first desk)
 
     pub held-small : seatsOk (desk .clock) 0 (desk .seats) ≡ true → Small n list
     unfolding jobsFor heldOf

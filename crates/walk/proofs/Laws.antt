@@ -27,7 +27,7 @@ use Rattle.figures.specs.Jobs.{asJob}
 use Rattle.walk.specs.declared.Jobs.{Jobs}
 use Rattle.walk.specs.declared.Next.{Next}
 use Rattle.walk.specs.declared.Next.the-variants.{Nothing, At}
-use Rattle.walk.specs.Walk.{asJobs, InRange, Small, either, closerTo, closerOf, nextOf}
+use Rattle.walk.specs.Walk.{asJobs, InRange, Small, closerTo, closerOf, nextOf}
 
 -- the first n jobs, from index i on
 forced-small : (b : ℕ) (l : List Model.Job) → All InRange l → forced l b ≤ 60000 * length l
@@ -120,7 +120,7 @@ nearest b (j ∷ jobs) = go (leb (j .deadline) b) refl (nextOf b jobs) (nearest 
     later : (c : ℕ) → (i : Model.Job) × List·Memᴰ i jobs × (i .deadline ≡ c) → (i : Model.Job) × List·Memᴰ i (j ∷ jobs) × (i .deadline ≡ c)
     later c m = (m .0, List·Memᴰ·tail (m .1), m .2)
 
-    two : b < j .deadline → (c : ℕ) → Nearest b jobs (At c) → (x : Bool) → ltb (j .deadline) c ≡ x → Nearest b (j ∷ jobs) (either x (At (j .deadline)) (At c))
+    two : b < j .deadline → (c : ℕ) → Nearest b jobs (At c) → (x : Bool) → ltb (j .deadline) c ≡ x → Nearest b (j ∷ jobs) (cond x (At (j .deadline)) (At c))
     two h c f true e = (h, (j, List·Memᴰ·head refl, refl), ((λ k. omega arith), All-map nearer jobs (f .2)))
       where
         nearer : (i : Model.Job) → (b < i .deadline → c ≤ i .deadline) → b < i .deadline → j .deadline ≤ i .deadline
@@ -129,7 +129,7 @@ nearest b (j ∷ jobs) = go (leb (j .deadline) b) refl (nextOf b jobs) (nearest 
         let l = ltb-false (j .deadline) c e in
         (f .0, later c (f .1), ((λ k. l), f .2))
 
-    go : (x : Bool) → leb (j .deadline) b ≡ x → (o : Next) → Nearest b jobs o → Nearest b (j ∷ jobs) (either x o (closerTo (j .deadline) o))
+    go : (x : Bool) → leb (j .deadline) b ≡ x → (o : Next) → Nearest b jobs o → Nearest b (j ∷ jobs) (cond x o (closerTo (j .deadline) o))
     go true e Nothing f = (leb-true (j .deadline) b e, f)
     go true e (At c) f = let l = leb-true (j .deadline) b e in (f .0, later c (f .1), ((λ k. absurd (omega arith)), f .2))
     go false e Nothing f = (leb-false (j .deadline) b e, (j, List·Memᴰ·head refl, refl), ((λ k. omega arith), All-map only jobs f))

@@ -1,6 +1,6 @@
 -- The jobs of the code as jobs of the model, and each step of the walk as a function.
 use Prim.Native.Nat.{ℕ, _≤_}
-use mathlib.Core.Bool.{Bool, true, false}
+use mathlib.Core.Bool.{cond}
 use mathlib.Core.List.{List, [], _∷_, map}
 use mathlib.Core.Option.{Option, some, none}
 use lib.Dec.{leb, ltb}
@@ -26,17 +26,13 @@ InRange j = (j .work ≤ 60000) × (j .deadline ≤ 168) × (j .bound ≤ 64)
 abbrev pub Small : ℕ → Jobs → Type 0
 Small n list = All InRange (asJobs n list)
 
-abbrev pub either : Bool → Next → Next → Next
-either true a b = a
-either false a b = b
-
 -- of a deadline and the nearest boundary above b so far, the nearer one above b
 abbrev pub closerTo : ℕ → Next → Next
 closerTo d Nothing = At d
-closerTo d (At c) = either (ltb d c) (At d) (At c)
+closerTo d (At c) = cond (ltb d c) (At d) (At c)
 
 unfoldable pub closerOf : ℕ → ℕ → Next → Next
-closerOf b d nearest = either (leb d b) nearest (closerTo d nearest)
+closerOf b d nearest = cond (leb d b) nearest (closerTo d nearest)
 
 abbrev pub nextOf : ℕ → List Model.Job → Next
 nextOf b [] = Nothing

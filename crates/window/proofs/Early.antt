@@ -1,5 +1,5 @@
 -- The refusals that come before any number is read, at the window and of the numbers that a list holds.
-use Prim.Native.Nat.{ℕ, zero, suc, _*_, _/_, _%_, _≤_, _<_}
+use Prim.Native.Nat.{ℕ, _*_, _/_, _%_, _≤_, _<_}
 use native.Mathlib.Omega.{arith}
 use mathlib.Core.Path.{_≡_, refl, sym, _∙_, ap}
 use mathlib.Core.Logic.{_≢_}
@@ -12,20 +12,9 @@ use Rattle.promise.specs.declared.Answer.{Answer}
 use Rattle.promise.specs.Answers.{refusal, fault, first}
 use Rattle.promise.specs.Rows.{rowCount, rowsFault, countFault, lengthFault, manyFault, listFault}
 use Rattle.promise.specs.Window.{wordsFrom, wordsOf, bytesFault, pack}
-use Rattle.promise.proofs.Ladder.{first-zero}
+use Rattle.promise.proofs.Ladder.{first-zero, first-zero-front}
+use Rattle.promise.proofs.Words.{words-count, row-count}
 use Rattle.window.specs.Bytes.{earlyFault}
-
-words-length : (bytes : List ℕ) (i n : ℕ) → length (wordsFrom bytes i n) ≡ n
-words-length bytes i zero = refl
-words-length bytes i (suc n) = ap suc (words-length bytes (suc i) n)
-
-words-count : (list : List ℕ) → length (wordsOf list) ≡ length list / 4
-unfolding wordsOf
-words-count list = words-length list 0 (length list / 4)
-
-pub row-count : (list : List ℕ) → rowCount (wordsOf list) ≡ length list / 16
-unfolding rowCount
-row-count list = omega (arith, words-count list)
 
 -- a refusal that names no place and no amount
 abbrev pub Whole : Answer → Type 0
@@ -45,14 +34,6 @@ first-whole a b p q = go (eqb (a .number) 0)
 pub whole-packed : (number : ℕ) → number ≡ pack (refusal number 0 0)
 unfolding pack
 whole-packed number = omega arith
-
--- no refusal of two is no refusal of the first
-pub zero-first : (a b : Answer) → (first a b) .number ≡ 0 → a .number ≡ 0
-zero-first a b = go (eqb (a .number) 0) refl
-  where
-    go : (t : Bool) → eqb (a .number) 0 ≡ t → (cond t b a) .number ≡ 0 → a .number ≡ 0
-    go true e z = eqb-true (a .number) 0 e
-    go false e z = z
 
 module _ (machines : ℕ) (list : List ℕ) where
   -- test by test
@@ -127,7 +108,7 @@ module _ (machines : ℕ) (list : List ℕ) where
   module _ (early : ℕ) (e : early ≡ (earlyFault machines list) .number) (z : early ≡ 0) where
     bytes-zero : (bytesFault machines list) .number ≡ 0
     unfolding earlyFault
-    bytes-zero = zero-first (bytesFault machines list) (manyFault (wordsOf list)) (sym e ∙ z)
+    bytes-zero = first-zero-front (bytesFault machines list) (manyFault (wordsOf list)) (sym e ∙ z)
 
     read-whole : length list % 16 ≡ 0
     read-whole = whole-rows bytes-zero

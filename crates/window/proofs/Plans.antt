@@ -18,9 +18,10 @@ use Rattle.promise.specs.Window.{wordsFrom, wordsOf, bytesOf, windowAnswer, win
 use Rattle.promise.proofs.Ladder.{same-number, zero-yes}
 use Rattle.promise.proofs.Table.{refuses, gives-plan}
 use Rattle.promise.proofs.Sound.{yes-long}
+use Rattle.promise.proofs.Words.{row-count}
 use Rattle.promise.proofs.Theorems.{refusal-writes-nothing, answers-pack, window-writes-the-plan}
-use Rattle.window.specs.Bytes.{earlyFault, bytesLeft, RowsPromise}
-use Rattle.window.proofs.Early.{row-count, whole-packed, refused-early, read-next, rows-read}
+use Rattle.window.specs.Bytes.{earlyFault, RowsPromise}
+use Rattle.window.proofs.Early.{whole-packed, refused-early, read-next, rows-read}
 
 module _ (machines : ℕ) (rows lent : List ℕ) (a : Answer) (after : List ℕ) (p : PlanPromise machines rows lent a after) where
   pub plan-packs : Packs a
@@ -47,7 +48,6 @@ module _ (machines : ℕ) (rows lent cells : List ℕ) (long : length cells ≡ 
   same = p .answered ∙ ap (planAnswer machines rows) long ∙ same-answer machines rows (length lent / 2)
 
   pub rows-refused : a .number ≢ 0 → (word : ℕ) → word ≡ pack a → RowsPromise machines rows lent word lent
-  unfolding bytesLeft
   rows-refused h word e = record {
     answered = e ∙ ap pack same;
     left = sym (rw (ne-eqb ((planAnswer machines rows (length lent / 2)) .number) 0 (λ z. h (same-number same ∙ z))) refl);
@@ -74,7 +74,7 @@ module _ (machines : ℕ) (rows lent cells : List ℕ) (long : length cells ≡ 
     done-long = let e : length done ≡ length cells = ap length (p .left) ∙ refusal-writes-nothing machines rows cells .1 in omega (arith, full)
 
     pub rows-planned : (after : List ℕ) → after ≡ bytesOf done ++ drop (2 * length done) lent → RowsPromise machines rows lent 0 after
-    unfolding bytesLeft pack
+    unfolding pack
     rows-planned after e = record {
       answered = ap pack (sym is-yes ∙ same);
       left = e ∙ rw (eq-eqb ((planAnswer machines rows (length lent / 2)) .number) 0 (sym (same-number same) ∙ z), done-long, done-plan) refl;
@@ -97,7 +97,7 @@ module _ (machines : ℕ) (list : List ℕ) (early : ℕ) (e : early ≡ (earlyF
 
     pub plan-read : (lent : List ℕ) (word : ℕ) (after : List ℕ) → RowsPromise machines (take (4 * (length list / 16)) numbers) lent word after
         → PlanBytesPromise machines list lent word after
-    unfolding windowAnswer windowBuffer bytesLeft
+    unfolding windowAnswer windowBuffer
     plan-read lent word after p = let q = rw (rows-read machines list early e z numbers r) at p in record { answered = q .answered ∙ ap pack (sym next); left = q .left ∙ rw next refl }
       where
         next : windowAnswer machines list (length lent) ≡ planAnswer machines (wordsOf list) (length lent / 2)

@@ -19,14 +19,14 @@ use Rattle.promise.specs.Answers.{yes, refusal, fault}
 use Rattle.promise.specs.Rows.{listFault, listOrder}
 use Rattle.promise.specs.Lists.{planned, Holds, answerOf, roomOrder, roomAnswer, roomFigure, RoomPromise}
 use Rattle.promise.specs.Window.{wordsFrom, wordsOf, pack, Packs, roomWord, roomWindowAnswer, roomPacked}
-use Rattle.promise.proofs.Ladder.{same-number, zero-none, zero-yes, first-zero}
+use Rattle.promise.proofs.Ladder.{same-number, zero-none, zero-yes, first-zero, first-zero-front}
 use Rattle.promise.proofs.Table.{refuses, gives-list, gives-room}
 use Rattle.promise.proofs.Sound.{Passes, few-machines}
 use Rattle.promise.proofs.Bounds.{planned-forced}
 use Rattle.promise.proofs.Theorems.{room-figure-is-the-room, answers-pack}
 use Rattle.figures.proofs.Signed.{sub-mag}
 use Rattle.window.specs.Bytes.{earlyFault}
-use Rattle.window.proofs.Early.{zero-first, whole-packed, refused-early, read-next, rows-read}
+use Rattle.window.proofs.Early.{whole-packed, refused-early, read-next, rows-read}
 
 pub short-word : (z : ℤ) → ltZ z (pos 0) ≡ true → 4294967296 - shortage z ≡ roomWord z
 short-word (pos n) h = absurd (omega (arith, ltb-true n 0 h))
@@ -54,7 +54,7 @@ module _ (machines : ℕ) (rows : List ℕ) (b : ℕ) (z : (roomAnswer machines 
   unfolding roomAnswer
   passes =
       zero-none (Holds machines rows) (answerOf machines rows) (refuses machines rows) (listOrder rows) (listFault machines rows)
-      (zero-first (listFault machines rows) (fault (ltb 168 b) (refusal 9 0 0)) z) (gives-list machines rows)
+      (first-zero-front (listFault machines rows) (fault (ltb 168 b) (refusal 9 0 0)) z) (gives-list machines rows)
 
   near : b ≤ 168
   unfolding roomAnswer

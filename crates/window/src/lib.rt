@@ -233,8 +233,9 @@ pub fn output_fault(bytes: &[u8], lent: usize, written: usize) -> u32
         return 12;
     }
     let unsound = desk::sound_fault(record::read_desk(bytes));
-    if unsound.number != 0 {
-        return unsound.number;
+    let twelve = unsound.number;
+    if twelve != 0 {
+        return twelve;
     }
     if lent < written {
         return 6;
@@ -244,16 +245,16 @@ pub fn output_fault(bytes: &[u8], lent: usize, written: usize) -> u32
 
 // Look: the four figures of a job.
 #[no_mangle]
-pub extern "C" fn vezhdanur_look(bytes: &[u8], number: u32, told: &mut [u8]) -> u64
-    ensures { λ r. ⌜ LookBytesPromise (now (bytes .entry)) number (now (told .entry)) r (now (bytes .exit)) (now (told .exit)) ⌝ }
+pub extern "C" fn vezhdanur_look(bytes: &[u8], number: u32, figures: &mut [u8]) -> u64
+    ensures { λ r. ⌜ LookBytesPromise (now (bytes .entry)) number (now (figures .entry)) r (now (bytes .exit)) (now (figures .exit)) ⌝ }
 {
-    let fault = output_fault(bytes, told.len(), 16);
+    let fault = output_fault(bytes, figures.len(), 16);
     if fault != 0 {
         return fault as u64;
     }
     let looked = desk::look(record::read_desk(bytes), number);
     let answer = looked.answer;
-    record::leave_figures(answer, looked, told);
+    record::leave_figures(answer, looked, figures);
     packed(answer)
 }
 

@@ -5,13 +5,13 @@ use mathlib.Core.Path.{_≡_, refl, _∙_, ap}
 use Prim.Native.Nat.{_+_, _<_}
 use Rattle.model.specs.Lists.{All}
 use Rattle.promise.specs.Desk.{Sound, deskOf}
-use Rattle.promise.specs.DeskCalls.{soundFault, withNew, seated}
+use Rattle.promise.specs.DeskCalls.{soundFault, withNew, jobsWith, seated}
 use Rattle.model.specs.Boundaries.{leastShort}
 use Rattle.promise.specs.Desk.{heldOf}
 use Rattle.walk.specs.Walk.{asShort, asJobs, InRange}
 use Rattle.figures.specs.Jobs.{asJob}
 use Rattle.desk.proofs.Figures.{good}
-use Rattle.desk.proofs.Laws.{asked, admit-refused, admit-answered, early, sound-clear, free, fitted, asked-in-range, asked-loaded, near}
+use Rattle.desk.proofs.Laws.{admit-refused, admit-answered, early, sound-clear, free, fitted, asked-in-range, asked-loaded, near}
 use borrow.Author.Needs.{needs}
 use Rattle.desk.proofs.admit.Statement.{statement}
 use Rattle.desk.proofs.admit.Tie as tie
@@ -38,21 +38,21 @@ next c =
     let d = c .before .before .before .before .before .before .args .desk in
     c .seat-in .ensures ∙ ap (λ h. deskOf (d .machines) (d .clock) (seated h (heldOf d))) (c .before .new-held .ensures)
 
-loaded : (c : tie.After-jobs-of) → asJobs (c .before .before .before .held-count .result + 1) (c .jobs-of .result) ≡ asked (c .before .before .before .before .before .before .before .args .desk) (asJob (c .before .before .before .before .before .before .before .args .j))
+loaded : (c : tie.After-jobs-of) → asJobs (c .before .before .before .held-count .result + 1) (c .jobs-of .result) ≡ jobsWith (c .before .before .before .before .before .before .before .args .desk) (asJob (c .before .before .before .before .before .before .before .args .j))
 loaded c =
     let k = c .before .before .before in
     let a = k .before .before .before .before .args in
     let f = k .before .before .before .admit-fault in
     c .jobs-of .ensures ∙ asked-loaded (a .desk) (asJob (a .j)) (f .result) (f .ensures) (k .before .if1 .left) (k .held-count .result) (k .held-count .ensures) (c .before .seat-in .result) (next (c .before))
 
-ranged : (c : tie.After-jobs-of) → All InRange (asked (c .before .before .before .before .before .before .before .args .desk) (asJob (c .before .before .before .before .before .before .before .args .j)))
+ranged : (c : tie.After-jobs-of) → All InRange (jobsWith (c .before .before .before .before .before .before .before .args .desk) (asJob (c .before .before .before .before .before .before .before .args .j)))
 ranged c =
     let e = c .before .before .before .before in
     let a = e .before .before .before .args in
     let f = e .before .before .admit-fault in
     asked-in-range (a .desk) (asJob (a .j)) (f .result) (f .ensures) (e .if1 .left) (sound e)
 
-walked : (c : tie.After-walk) → asShort (c .walk .result) ≡ leastShort (c .before .before .before .before .before .before .before .before .args .desk .machines) (asked (c .before .before .before .before .before .before .before .before .args .desk) (asJob (c .before .before .before .before .before .before .before .before .args .j)))
+walked : (c : tie.After-walk) → asShort (c .walk .result) ≡ leastShort (c .before .before .before .before .before .before .before .before .args .desk .machines) (jobsWith (c .before .before .before .before .before .before .before .before .args .desk) (asJob (c .before .before .before .before .before .before .before .before .args .j)))
 walked c =
     let a = c .before .before .before .before .before .before .before .before .args in
     c .walk .ensures ∙ ap (leastShort (a .desk .machines)) (loaded (c .before))
@@ -92,7 +92,7 @@ walk-requires c κs =
 desk-fit-requires : tie.Need-desk-fit-requires
 desk-fit-requires c κs =
     let a = c .before .before .before .before .before .before .before .before .args in
-    (sound (c .before .before .before .before .before) .clock, near (a .desk .machines) (asked (a .desk) (asJob (a .j))) (c .walk .result) (ranged (c .before)) (walked c))
+    (sound (c .before .before .before .before .before) .clock, near (a .desk .machines) (jobsWith (a .desk) (asJob (a .j))) (c .walk .result) (ranged (c .before)) (walked c))
 
 returns-2 : tie.Need-returns-2
 returns-2 c =

@@ -6,8 +6,8 @@ use mathlib.Core.Path.{_≡_, _∙_, ap}
 use Rattle.promise.specs.Desk.{Sound}
 use Rattle.promise.specs.Rows.{fieldsFault}
 use Prim.Native.Nat.{_+_}
-use Rattle.promise.specs.DeskCalls.{admitWindow}
-use Rattle.rows.specs.Rows.{windowOf}
+use Rattle.promise.specs.DeskCalls.{admitDues}
+use Rattle.rows.specs.Rows.{duesOf}
 use Rattle.figures.specs.Jobs.{asJob}
 use Rattle.desk.specs.Calls.{admitFault}
 use Rattle.desk.proofs.Figures.{good}
@@ -21,12 +21,12 @@ len c = search (needs, length-unmapped)
 sound : (c : tie.Else1) → Sound (c .before .before .before .args .desk)
 sound c = let f = c .before .before .sound-fault in good _ (len (c .before .before .before)) (f .result) (f .ensures) (c .if1 .left)
 
--- the range of the deadline is Admit's window
-fields : (c : tie.After-fields-fault) → c .fields-fault .result ≡ fieldsFault (admitWindow (c .before .before .before .before .before .before .args .desk .clock)) 0 (asJob (c .before .before .before .before .before .before .args .j))
-unfolding admitWindow
+-- the range of the deadline is Admit's
+fields : (c : tie.After-fields-fault) → c .fields-fault .result ≡ fieldsFault (admitDues (c .before .before .before .before .before .before .args .desk .clock)) 0 (asJob (c .before .before .before .before .before .before .args .j))
+unfolding admitDues
 fields c =
     let a = c .before .before .before .before .before .before .args in
-    c .fields-fault .ensures ∙ ap (λ to. fieldsFault (windowOf (a .desk .clock + 1) to) 0 (asJob (a .j))) (c .before .last-due .ensures)
+    c .fields-fault .ensures ∙ ap (λ to. fieldsFault (duesOf (a .desk .clock + 1) to) 0 (asJob (a .j))) (c .before .last-due .ensures)
 
 sound-fault-requires : tie.Need-sound-fault-requires
 sound-fault-requires c κs = search needs
@@ -57,7 +57,7 @@ held-count-requires c κs = search needs
 seat-fault-requires : tie.Need-seat-fault-requires
 seat-fault-requires c κs =
     let s = sound (c .before .before .before .before .before .before) in
-    (rw (c .held-count .ensures) (s .few), c .held-count .ensures, s .zeros)
+    (rw (c .held-count .ensures) (s .few), c .held-count .ensures)
 
 returns-3 : tie.Need-returns-3
 unfolding admitFault

@@ -1,3 +1,4 @@
+use native.Mathlib.Omega.{arith}
 use lib.ListN.{length}
 use Rattle.figures.proofs.Tables.{length-unmapped}
 use mathlib.Core.Path.{_≡_}
@@ -35,13 +36,13 @@ first-slot-requires c κs =
     (rw (n .ensures) (sound e .few), run-plannable _ (f .result) (f .ensures) (e .if1 .left) (len (e .before .before .before)) (n .result) (n .ensures) (c .jobs-of .result) (c .jobs-of .ensures))
 
 pairs-of-requires : tie.Need-pairs-of-requires
-pairs-of-requires c κs = rw (c .before .before .held-count .ensures) (sound (c .before .before .before) .few)
+pairs-of-requires c κs = omega (arith, c .before .before .held-count .ensures, sound (c .before .before .before) .few)
 
 after-slot-requires : tie.Need-after-slot-requires
 after-slot-requires c κs =
     let e = c .before .before .before .before in
     let f = e .before .before .run-fault in
-    (rw (c .before .before .before .held-count .ensures) (sound e .few), before-the-end _ (f .result) (f .ensures) (e .if1 .left) (len (e .before .before .before)))
+    (omega (arith, c .before .before .before .held-count .ensures, sound e .few), before-the-end _ (f .result) (f .ensures) (e .if1 .left) (len (e .before .before .before)))
 
 returns-2 : tie.Need-returns-2
 returns-2 c =

@@ -19,7 +19,7 @@ returns c =
     let a = s .args in
     let f = c .before .before .before .find in
     let g = c .before .enum-told .given in
-    c .refuse .ensures ∙ held-fault (a .desk) (s .pre .2) (a .n) (s .pre .1) (a .number) (f .result) (f .ensures) (g .0 .0) (g .1)
+    c .refuse .ensures ∙ held-fault (a .desk) (a .n) (s .pre .1) (a .number) (f .result) (f .ensures) (g .0 .0) (g .1)
 
 enum-told-2 : tie.Need-enum-told-2
 enum-told-2 c = search needs
@@ -32,7 +32,7 @@ returns-2 c =
     let s = c .before .before .before .before .before in
     let a = s .args in
     let f = c .before .before .before .before .find in
-    c .refuse2 .ensures ∙ full-fault (a .desk) (s .pre .2) (a .n) (s .pre .1) (a .number) (f .result) (f .ensures) (c .before .before .enum-told2 .given .1) (c .before .if1 .taken)
+    c .refuse2 .ensures ∙ full-fault (a .desk) (a .n) (s .pre .1) (a .number) (f .result) (f .ensures) (c .before .before .enum-told2 .given .1) (c .before .if1 .taken)
 
 accept-requires : tie.Need-accept-requires
 accept-requires c κs = search needs
@@ -42,7 +42,7 @@ returns-3 c =
     let s = c .before .before .before .before .before in
     let a = s .args in
     let f = c .before .before .before .before .find in
-    c .accept .ensures ∙ seat-free (a .desk) (s .pre .2) (a .n) (s .pre .1) (a .number) (f .result) (f .ensures) (c .before .before .enum-told2 .given .1) (c .before .if1 .left)
+    c .accept .ensures ∙ seat-free (a .desk) (a .n) (s .pre .1) (a .number) (f .result) (f .ensures) (c .before .before .enum-told2 .given .1) (c .before .if1 .left)
 
 pub seat-fault-spec : {M : Type 1} → statement M
 seat-fault-spec =

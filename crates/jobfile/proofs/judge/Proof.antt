@@ -1,7 +1,5 @@
-use mathlib.Core.Path.{refl, sym, _∙_, ap}
-use Rattle.promise.specs.declared.LineKind.the-variants.{MachinesLine, JobLine, WorkLine, DeadlineLine, BoundLine}
+use mathlib.Core.Path.{sym, _∙_, ap}
 use Rattle.promise.specs.JobFile.{toldBy}
-use Rattle.jobfile.proofs.Laws.{number-told, label-told}
 use borrow.Author.Needs.{needs}
 use Rattle.jobfile.proofs.judge.Statement.{statement}
 use Rattle.jobfile.proofs.judge.Tie as tie
@@ -61,40 +59,46 @@ label-after-requires : tie.Need-label-after-requires
 label-after-requires c κs = search needs
 
 returns : tie.Need-returns
+unfolding toldBy
 returns c =
     let t = c .before .before in
     let a = t .before .before .before .args in
-    c .number-after .ensures ∙ number-told MachinesLine (a .line .now) (λ x. refl) ∙ sym (ap (λ k. toldBy k (a .line .now)) (t .enum-told .given .1))
+    c .number-after .ensures ∙ sym (ap (λ k. toldBy k (a .line .now)) (t .enum-told .given .1))
 
 returns-2 : tie.Need-returns-2
+unfolding toldBy
 returns-2 c =
     let t = c .before .before in
     let a = t .before .before .before .args in
-    c .number-after2 .ensures ∙ number-told JobLine (a .line .now) (λ x. refl) ∙ sym (ap (λ k. toldBy k (a .line .now)) (t .enum-told2 .given .1))
+    c .number-after2 .ensures ∙ sym (ap (λ k. toldBy k (a .line .now)) (t .enum-told2 .given .1))
 
 returns-3 : tie.Need-returns-3
+unfolding toldBy
 returns-3 c =
     let t = c .before .before in
     let a = t .before .before .before .args in
-    c .number-after3 .ensures ∙ number-told WorkLine (a .line .now) (λ x. refl) ∙ sym (ap (λ k. toldBy k (a .line .now)) (t .enum-told3 .given .1))
+    c .number-after3 .ensures ∙ sym (ap (λ k. toldBy k (a .line .now)) (t .enum-told3 .given .1))
 
 returns-4 : tie.Need-returns-4
+unfolding toldBy
 returns-4 c =
     let t = c .before .before in
     let a = t .before .before .before .args in
-    c .number-after4 .ensures ∙ number-told DeadlineLine (a .line .now) (λ x. refl) ∙ sym (ap (λ k. toldBy k (a .line .now)) (t .enum-told4 .given .1))
+    c .number-after4 .ensures ∙ sym (ap (λ k. toldBy k (a .line .now)) (t .enum-told4 .given .1))
 
 returns-5 : tie.Need-returns-5
+unfolding toldBy
 returns-5 c =
     let t = c .before .before in
     let a = t .before .before .before .args in
-    c .number-after5 .ensures ∙ number-told BoundLine (a .line .now) (λ x. refl) ∙ sym (ap (λ k. toldBy k (a .line .now)) (t .enum-told5 .given .1))
+    c .number-after5 .ensures ∙ sym (ap (λ k. toldBy k (a .line .now)) (t .enum-told5 .given .1))
 
 returns-6 : tie.Need-returns-6
+unfolding toldBy
 returns-6 c =
     let t = c .before .before in
     let a = t .before .before .before .args in
-    c .label-after .ensures ∙ label-told (a .line .now) ∙ sym (ap (λ k. toldBy k (a .line .now)) (t .enum-told6 .given .1))
+    c .label-after .ensures ∙ sym (ap (λ k. toldBy k (a .line .now)) (t .enum-told6 .given .1))
 
 pub judge-spec : {M : Type 1} → statement M
 judge-spec =

@@ -2,15 +2,14 @@ use Prim.Native.Nat.{_≤_, _-_}
 use native.Mathlib.Omega.{arith}
 use native.Mathlib.Numerals.{add-one}
 use mathlib.Core.Path.{_≡_, refl, sym, _∙_}
-use Rattle.promise.specs.Rows.{rowsFault}
-use Rattle.rows.specs.Rows.{rowsFaults}
+use Rattle.promise.specs.Rows.{rowCount, rowsFault}
 use Rattle.rows.proofs.Laws.{row-inside, rows-start, rows-stop, rows-on, rows-end}
 use borrow.Author.Needs.{needs}
 use Rattle.rows.proofs.rows_fault.Statement.{statement}
 use Rattle.rows.proofs.rows_fault.Tie as tie
 
 abbrev Inv-loop : tie.InvT-loop
-Inv-loop rows n i₀ i = (i ≤ n) × (rowsFaults rows ≡ rowsFault rows i (n - i))
+Inv-loop rows n i₀ i = (i ≤ n) × (rowsFault rows 0 (rowCount rows) ≡ rowsFault rows i (n - i))
 
 abbrev μ-loop : tie.MeasureT-loop
 μ-loop rows n i₀ i = n - i

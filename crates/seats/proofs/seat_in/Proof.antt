@@ -5,8 +5,9 @@ use lib.ListN.{length, take}
 use borrow.Author.Needs.{needs}
 use Rattle.promise.specs.Desk.{heldOf}
 use Rattle.promise.specs.DeskCalls.{seated}
+use Rattle.promise.proofs.DeskSeats.{held-first}
 use Rattle.seats.specs.Seats.{rankIn}
-use Rattle.seats.proofs.Laws.{held-first, rank-within, put-done, desk-made}
+use Rattle.seats.proofs.Laws.{rank-within, put-done, desk-made}
 use Rattle.seats.proofs.seat_in.Statement.{statement}
 use Rattle.seats.proofs.seat_in.Tie as tie
 
@@ -20,7 +21,7 @@ place c =
     let p = c .before .pre in
     c .rank .ensures
     ∙ ap (λ k. rankIn (a .h .number) (take k (a .desk .seats))) (p .0)
-    ∙ ap (rankIn (a .h .number)) (held-first (a .desk) (p .2))
+    ∙ ap (rankIn (a .h .number)) (held-first (a .desk))
 
 insert-requires : tie.Need-insert-requires
 insert-requires c κs =

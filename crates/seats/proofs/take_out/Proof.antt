@@ -5,15 +5,16 @@ use lib.ListN.{length}
 use borrow.Author.Needs.{needs}
 use Rattle.promise.specs.Desk.{heldOf}
 use Rattle.promise.specs.DeskCalls.{without}
+use Rattle.promise.proofs.DeskSeats.{held-few}
 use Rattle.figures.proofs.Tables.{length-unmapped}
-use Rattle.seats.proofs.Laws.{few-held, find-held, out-done, desk-made}
+use Rattle.seats.proofs.Laws.{find-held, out-done, desk-made}
 use Rattle.seats.proofs.take_out.Statement.{statement}
 use Rattle.seats.proofs.take_out.Tie as tie
 
 few : (c : tie.Start) → length (heldOf (c .args .desk)) ≤ 32
 few c =
     let e : length (c .args .desk .seats) ≡ 32 = search (needs, length-unmapped) in
-    few-held (c .args .desk) (c .pre .1) e
+    held-few (c .args .desk) e
 
 remove-requires : tie.Need-remove-requires
 remove-requires c κs = omega (arith, few c, find-held (c .args .number) (heldOf (c .args .desk)) .1 (c .args .at) (c .pre .2) .1)

@@ -3,8 +3,9 @@ use mathlib.Core.Path.{_≡_, sym, _∙_}
 use lib.ListN.{length}
 use borrow.Author.Tests.{le-leb, lt-leb}
 use Rattle.promise.specs.DeskCalls.{isSound}
+use Rattle.promise.proofs.DeskSeats.{held-few}
 use Rattle.figures.proofs.Tables.{length-unmapped}
-use Rattle.sound.proofs.Laws.{held-few, held-small, held-fit}
+use Rattle.sound.proofs.Laws.{held-small, held-fit}
 use borrow.Author.Needs.{needs}
 use Rattle.sound.proofs.is_sound.Statement.{statement}
 use Rattle.sound.proofs.is_sound.Tie as tie
@@ -33,7 +34,7 @@ held-count-requires c κs = search needs
 jobs-of-requires : tie.Need-jobs-of-requires
 jobs-of-requires c κs =
     let s = c .before .before .before .before .before .before .before .before .before in
-    held-few (s .args .desk) (c .held-count .result) (c .held-count .ensures) (len s)
+    omega (arith, c .held-count .ensures, held-few (s .args .desk) (len s))
 
 walk-requires : tie.Need-walk-requires
 walk-requires c κs =
@@ -41,7 +42,7 @@ walk-requires c κs =
     let d = s .args .desk in
     let n = c .before .held-count in
     let ok = sym (c .before .before .before .seats-ok .ensures) ∙ c .before .before .if4 .taken in
-    (held-few d (n .result) (n .ensures) (len s), omega arith, held-small d (n .result) (n .ensures) (c .jobs-of .result) (c .jobs-of .ensures) ok)
+    (omega (arith, n .ensures, held-few d (len s)), omega arith, held-small d (n .result) (n .ensures) (c .jobs-of .result) (c .jobs-of .ensures) ok)
 
 fits-requires : tie.Need-fits-requires
 fits-requires c κs = search needs

@@ -34,7 +34,7 @@ mul-result : tie.Need-mul-result
 mul-result c =
     let h = c .before .before .before .before .before .before .before .before .before .before .before .before .args .h in
     let k : h .bound ≤ 64 = omega arith in
-    let s : h .slots ≤ 168 = omega arith in
+    let s : h .slots ≤ 1000000 = omega arith in
     record { fits = omega (arith, mul-le-mul k s) }
 
 returns-6 : tie.Need-returns-6

@@ -16,14 +16,14 @@ sound-fault-requires c κs = search needs
 
 returns-2 : tie.Need-returns-2
 returns-2 c =
-    let f = c .before .before in
+    let f = c .before in
     let r = f .before in
     let a = r .before .before .before .args in
     output-unsound (a .bytes .now) (a .lent) (a .written) (r .before .if1 .left) (r .read-desk .result) (r .read-desk .ensures) (f .sound-fault .result) (f .sound-fault .ensures) (c .if2 .taken)
 
 returns-3 : tie.Need-returns-3
 returns-3 c =
-    let f = c .before .before .before in
+    let f = c .before .before in
     let r = f .before in
     let a = r .before .before .before .args in
     output-short (a .bytes .now) (a .lent) (a .written) (r .before .if1 .left) (r .read-desk .result) (r .read-desk .ensures) (f .sound-fault .result) (f .sound-fault .ensures) (c .before .if2 .left)
@@ -31,7 +31,7 @@ returns-3 c =
 
 returns-4 : tie.Need-returns-4
 returns-4 c =
-    let f = c .before .before .before in
+    let f = c .before .before in
     let r = f .before in
     let a = r .before .before .before .args in
     output-clear (a .bytes .now) (a .lent) (a .written) (r .before .if1 .left) (r .read-desk .result) (r .read-desk .ensures) (f .sound-fault .result) (f .sound-fault .ensures) (c .before .if2 .left)

@@ -13,13 +13,13 @@ returns : tie.Need-returns
 returns c =
     let f = c .before in
     let a = f .before .before .before .args in
-    look-early (a .bytes .now) (a .number) (a .told .now) (f .output-fault .result) (f .output-fault .ensures) (c .if1 .taken)
+    look-early (a .bytes .now) (a .number) (a .figures .now) (f .output-fault .result) (f .output-fault .ensures) (c .if1 .taken)
 
 read-desk-requires : tie.Need-read-desk-requires
 read-desk-requires c κs =
     let f = c .before in
     let a = f .before .before .before .args in
-    look-length (a .bytes .now) (a .number) (a .told .now) (f .output-fault .result) (f .output-fault .ensures) (c .if1 .left)
+    look-length (a .bytes .now) (a .number) (a .figures .now) (f .output-fault .result) (f .output-fault .ensures) (c .if1 .left)
 
 look-requires : tie.Need-look-requires
 look-requires c κs = search needs
@@ -29,7 +29,7 @@ leave-figures-requires c κs =
     let e = c .before .before .before .before in
     let f = e .before in
     let a = f .before .before .before .args in
-    look-room (a .bytes .now) (a .number) (a .told .now) (f .output-fault .result) (f .output-fault .ensures) (e .if1 .left)
+    look-room (a .bytes .now) (a .number) (a .figures .now) (f .output-fault .result) (f .output-fault .ensures) (e .if1 .left)
 
 packed-requires : tie.Need-packed-requires
 packed-requires c κs =
@@ -38,7 +38,7 @@ packed-requires c κs =
     let e = r .before in
     let f = e .before in
     let a = f .before .before .before .args in
-    look-packs (a .bytes .now) _ (a .told .now) (f .output-fault .result) (f .output-fault .ensures) (e .if1 .left) (r .read-desk .result) (r .read-desk .ensures) (m .look .result) (m .look .ensures)
+    look-packs (a .bytes .now) _ (a .figures .now) (f .output-fault .result) (f .output-fault .ensures) (e .if1 .left) (r .read-desk .result) (r .read-desk .ensures) (m .look .result) (m .look .ensures)
 
 same-length : tie.Need-same-length
 same-length c = search needs
@@ -51,7 +51,7 @@ returns-2 c =
     let e = r .before in
     let f = e .before in
     let a = f .before .before .before .args in
-    look-promised (a .bytes .now) (a .number) (a .told .now) (f .output-fault .result) (f .output-fault .ensures) (e .if1 .left) (r .read-desk .result) (r .read-desk .ensures) (m .look .result) (m .look .ensures)
+    look-promised (a .bytes .now) (a .number) (a .figures .now) (f .output-fault .result) (f .output-fault .ensures) (e .if1 .left) (r .read-desk .result) (r .read-desk .ensures) (m .look .result) (m .look .ensures)
     (c .packed .result) _ (c .packed .ensures) (l .leave-figures .ensures)
 
 pub vezhdanur-look-spec : {M : Type 1} → statement M
