@@ -102,7 +102,8 @@ fn write_slot(out: &mut [u8], at: usize, some: bool, t: u32, machines: u32) -> u
     write_pair(&mut *out, at, t, machines)
 }
 
-fn above_zero(some: bool, machines: u32) -> bool
+// A pair stands before the next slot.
+fn any_pair(some: bool, machines: u32) -> bool
     ensures { λ r. ⌜ r ≡ some || ltb 0 machines ⌝ }
 {
     if 0 < machines {
@@ -122,7 +123,7 @@ fn write_slots(out: &mut [u8], at: usize, machines: &[u16]) -> usize
     while i < machines.len() {
         let m = machines[i] as u32;
         end = write_slot(&mut *out, end, some, i as u32 + 1, m);
-        some = above_zero(some, m);
+        some = any_pair(some, m);
         i += 1;
     }
     end

@@ -40,8 +40,8 @@ write-slot-requires c κs =
     let ms = s .before .before .before .args .machines .now in
     left-room (slotText (l .some) (l .i + 1) (getD ms (l .i) 0)) _ (l .inv .1) (next-slot (l .some) _ ms (l .i) (omega arith) refl) (omega arith)
 
-above-zero-requires : tie.Need-above-zero-requires Inv-loop μ-loop
-above-zero-requires c κs = search needs
+any-pair-requires : tie.Need-any-pair-requires Inv-loop μ-loop
+any-pair-requires c κs = search needs
 
 add-i : tie.Need-add-i Inv-loop μ-loop
 add-i c = search needs
@@ -55,7 +55,7 @@ loop-again c =
     let l = s .loop in
     let ms = s .before .before .before .args .machines .now in (
       omega arith,
-      left-next (slotText (l .some) (l .i + 1) (getD ms (l .i) 0)) _ (l .inv .1) (next-slot (l .some) _ ms (l .i) (omega arith) (c .above-zero .ensures))
+      left-next (slotText (l .some) (l .i + 1) (getD ms (l .i) 0)) _ (l .inv .1) (next-slot (l .some) _ ms (l .i) (omega arith) (c .any-pair .ensures))
           (c .before .before .before .write-slot .ensures),
     )
 
@@ -82,7 +82,7 @@ write-slots-spec =
     cast-write-slot
     add-write-slot
     write-slot-requires
-    above-zero-requires
+    any-pair-requires
     add-i
     loop-less
     loop-again

@@ -1,6 +1,6 @@
 use Rattle.writer.proofs.Laws.{some-now, some-still}
-use Rattle.writer.proofs.above_zero.Statement.{statement}
-use Rattle.writer.proofs.above_zero.Tie as tie
+use Rattle.writer.proofs.any_pair.Statement.{statement}
+use Rattle.writer.proofs.any_pair.Tie as tie
 
 returns : tie.Need-returns
 returns c = some-now (c .before .args .some) (c .before .args .machines) (c .if1 .taken)
@@ -8,5 +8,5 @@ returns c = some-now (c .before .args .some) (c .before .args .machines) (c .if1
 returns-2 : tie.Need-returns-2
 returns-2 c = some-still (c .before .args .some) (c .before .args .machines) (c .if1 .left)
 
-pub above-zero-spec : {M : Type 1} → statement M
-above-zero-spec = tie.close (tie.spec returns returns-2)
+pub any-pair-spec : {M : Type 1} → statement M
+any-pair-spec = tie.close (tie.spec returns returns-2)
