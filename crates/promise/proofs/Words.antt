@@ -15,6 +15,16 @@ use Rattle.promise.specs.Rows.{rowCount, countFault}
 use Rattle.promise.specs.Window.{wordAt, wordsFrom, wordsOf, sent, bytesFault, windowAnswer, roomWindowAnswer}
 use Rattle.promise.specs.Claims.{WindowReadsTheNumbers, WindowTakesSixteenARow, WindowCountsBytes, WindowCountsMachinesFirst, WindowReadsLowestFirst}
 
+-- number i is read from its four bytes
+pub words-at : (bytes : List ℕ) (a n i : ℕ) → i < n → getD (wordsFrom bytes a n) i 0 ≡ wordAt bytes (a + i)
+words-at bytes a zero i l = absurd (omega arith)
+words-at bytes a (suc n) zero l = let e : a ≡ a + 0 = omega arith in ap (wordAt bytes) e
+words-at bytes a (suc n) (suc i) l = let e : suc a + i ≡ a + suc i = omega arith in words-at bytes (suc a) n i (omega arith) ∙ ap (wordAt bytes) e
+
+pub window-reads-lowest-first : WindowReadsLowestFirst
+unfolding wordsOf wordAt
+window-reads-lowest-first bytes i l = let e : 0 + i ≡ i = omega arith in words-at bytes 0 (length bytes / 4) i l ∙ ap (wordAt bytes) e
+
 pub sent-length : (ns : List ℕ) → length (sent ns) ≡ 4 * length ns
 sent-length [] = omega arith
 sent-length (n ∷ ns) = omega (arith, sent-length ns)
@@ -56,16 +66,6 @@ unfolding wordsOf
 window-reads-the-numbers ns =
     let count : length (sent ns) / 4 ≡ length ns = omega (arith, sent-length ns) in
     (rw count (words-read ns), bytes-sent ns)
-
--- number i is read from its four bytes
-pub words-at : (bytes : List ℕ) (a n i : ℕ) → i < n → getD (wordsFrom bytes a n) i 0 ≡ wordAt bytes (a + i)
-words-at bytes a zero i l = absurd (omega arith)
-words-at bytes a (suc n) zero l = let e : a ≡ a + 0 = omega arith in ap (wordAt bytes) e
-words-at bytes a (suc n) (suc i) l = let e : suc a + i ≡ a + suc i = omega arith in words-at bytes (suc a) n i (omega arith) ∙ ap (wordAt bytes) e
-
-pub window-reads-lowest-first : WindowReadsLowestFirst
-unfolding wordsOf wordAt
-window-reads-lowest-first bytes i l = let e : 0 + i ≡ i = omega arith in words-at bytes 0 (length bytes / 4) i l ∙ ap (wordAt bytes) e
 
 words-length : (bytes : List ℕ) (i n : ℕ) → length (wordsFrom bytes i n) ≡ n
 words-length bytes i zero = refl

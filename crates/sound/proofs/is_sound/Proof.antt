@@ -1,5 +1,5 @@
 use native.Mathlib.Omega.{arith}
-use mathlib.Core.Path.{_≡_, sym, _∙_}
+use mathlib.Core.Path.{_≡_, refl, sym, _∙_}
 use lib.ListN.{length}
 use borrow.Author.Tests.{le-leb, lt-leb}
 use Rattle.promise.specs.DeskCalls.{isSound}
@@ -23,7 +23,9 @@ returns-2 c = search (needs, le-leb, lt-leb)
 
 returns-3 : tie.Need-returns-3
 unfolding isSound
-returns-3 c = search (needs, le-leb, lt-leb)
+returns-3 c =
+    let d = c .before .before .before .before .before .before .args .desk in
+    rw (le-leb 1 (d .machines) (omega arith), le-leb (d .machines) 64 (omega arith), lt-leb (d .clock) 100000 (omega arith)) refl
 
 seats-ok-requires : tie.Need-seats-ok-requires
 seats-ok-requires c κs = search needs

@@ -1,6 +1,7 @@
 use Prim.Native.Nat.{_≤_}
 use native.Mathlib.Nat.{mul-le-mul}
 use native.Mathlib.Omega.{arith}
+use mathlib.Core.Path.{refl}
 use Rattle.promise.specs.DeskCalls.{seatFits}
 use borrow.Author.Tests.{le-leb, lt-leb}
 use borrow.Author.Needs.{needs}
@@ -21,7 +22,9 @@ returns-3 c = search (needs, le-leb, lt-leb)
 
 returns-4 : tie.Need-returns-4
 unfolding seatFits
-returns-4 c = search (needs, le-leb, lt-leb)
+returns-4 c =
+    let h = c .before .before .before .before .before .before .before .before .args .h in
+    rw (le-leb 1 (h .bound) (omega arith), le-leb (h .bound) 64 (omega arith), le-leb 1 (h .slots) (omega arith), lt-leb (h .slots) 168 (omega arith)) refl
 
 sub-if5 : tie.Need-sub-if5
 sub-if5 c = search needs
