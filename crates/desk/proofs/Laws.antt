@@ -61,7 +61,7 @@ module _ (desk : Desk) (n : ℕ) (a : Answer) (e : a ≡ findAnswer desk n) wher
 
 -- the search among the first seats is one among the held jobs
 searched : (desk : Desk) (k : ℕ) → k ≡ length (heldOf desk) → (n : ℕ) (o : Found) → o ≡ findIn n 0 (take k (desk .seats)) → o ≡ findIn n 0 (heldOf desk)
-searched desk k count n o eo = eo ∙ ap (λ (l : ℕ). findIn n 0 (take l (desk .seats))) count ∙ ap (findIn n 0) (held-first desk)
+searched desk k count n o eo = eo ∙ ap (findIn n 0) (held-first desk k count)
 
 -- the search, on a desk that passes the sound test
 module _ (desk : Desk) (f : Answer) (told : f ≡ soundFault desk) where

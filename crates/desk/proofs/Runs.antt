@@ -25,6 +25,7 @@ use Rattle.promise.proofs.Ladder.{same-number, first-zero-front}
 use Rattle.promise.proofs.DeskSeats.{held-first, to-plan-distinct}
 use Rattle.promise.proofs.DeskTable.{run-yes}
 use Rattle.promise.proofs.DeskBounds.{light-in-range, held-light}
+use Rattle.sound.proofs.Laws.{held-jobs}
 use Rattle.slot.specs.Slot.{fillDown, givenTo, afterShares}
 use Rattle.slot.proofs.Column.{slot-pairs, slot-after}
 use Rattle.desk.proofs.Figures.{good}
@@ -54,13 +55,9 @@ module _ (desk : Desk) (a : Answer) (e : a ≡ runAnswer desk) where
     deadlines = All-map (λ j r. r .1) (jobsFor desk) held-in-range
 
     module _ (n : ℕ) (count : n ≡ length (heldOf desk)) where
-      held-taken : take n (desk .seats) ≡ heldOf desk
-      held-taken = ap (λ (k : ℕ). take k (desk .seats)) count ∙ held-first desk
-
       module _ (list : Jobs) (loaded : asJobs n list ≡ toPlan (desk .machines) (desk .clock) (take n (desk .seats))) where
         planned : asJobs n list ≡ jobsFor desk
-        unfolding jobsFor
-        planned = loaded ∙ ap (toPlan (desk .machines) (desk .clock)) held-taken
+        planned = held-jobs desk n count list loaded
 
         pub run-plannable : Plannable n list
         run-plannable = record {
@@ -81,5 +78,5 @@ module _ (desk : Desk) (a : Answer) (e : a ≡ runAnswer desk) where
               let given : g ≡ pairs (givenOf (column desk) (heldOf desk)) =
               eg ∙ ap pairs (ap (λ (ps : List Share). map givenTo ps) filled ∙ slot-pairs desk apart deadlines) in
               let after : d ≡ deskOf (desk .machines) (desk .clock + 1) (afterRun (column desk) (heldOf desk)) =
-              ed ∙ ap (deskOf (desk .machines) (desk .clock + 1)) (ap₂ afterShares filled held-taken ∙ slot-after desk apart deadlines) in
+              ed ∙ ap (deskOf (desk .machines) (desk .clock + 1)) (ap₂ afterShares filled (held-first desk n count) ∙ slot-after desk apart deadlines) in
               rw (← e, eq-eqb (a .number) 0 zero, ← given, ← after) refl

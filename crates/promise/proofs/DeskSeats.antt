@@ -33,12 +33,12 @@ used-first (h ∷ hs) = go (eqb (h .number) 0) (used-first hs)
     go false e = ap (λ (m : List Held). h ∷ m) e
 
 module _ (desk : Desk) where
-  pub held-first : take (length (heldOf desk)) (desk .seats) ≡ heldOf desk
+  pub held-first : (n : ℕ) → n ≡ length (heldOf desk) → take n (desk .seats) ≡ heldOf desk
   unfolding heldOf
-  held-first = used-first (desk .seats)
+  held-first n e = ap (λ (k : ℕ). take k (desk .seats)) e ∙ used-first (desk .seats)
 
   pub held-few : length (desk .seats) ≡ 32 → length (heldOf desk) ≤ 32
-  held-few l = omega (arith, length-take (length (heldOf desk)) (desk .seats), ap (λ (m : List Held). length m) held-first)
+  held-few l = omega (arith, length-take (length (heldOf desk)) (desk .seats), ap (λ (m : List Held). length m) (held-first (length (heldOf desk)) refl))
 
 -- a table has 32 seats, and its held jobs are those it was made of
 length-table : (held : List Held) → length held ≤ 32 → length (table held) ≡ 32

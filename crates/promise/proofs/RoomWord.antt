@@ -8,6 +8,7 @@ use mathlib.Core.Bool.{cond}
 use mathlib.Core.List.{List, [], _∷_, _++_}
 use lib.Dec.{ltb}
 use lib.IntN.{ℤ, pos, negsuc, negℤ}
+use lib.Signed.{mag}
 use borrow.Author.Tests.{lt-ltb, le-ltb, eq-eqb}
 use Rattle.model.specs.Jobs.{Job, forced, room}
 use Rattle.model.proofs.Signed.{room-enough, room-short}
@@ -20,17 +21,12 @@ use Rattle.promise.proofs.Table.{refuses, gives-room}
 use Rattle.promise.proofs.Sound.{Passes, few-machines}
 use Rattle.promise.proofs.Bounds.{planned-forced}
 
--- a room that 32 bits hold
-abbrev Fits : ℤ → Type 0
-Fits (pos n) = n < 2147483648
-Fits (negsuc n) = n < 2147483648
-
 -- the room that a word of 32 bits stands for
 abbrev readBack : ℕ → ℤ
 readBack w = cond (ltb w 2147483648) (pos w) (negℤ (pos (4294967296 - w)))
 
-read-back : (z : ℤ) → Fits z → z ≡ readBack (roomWord z)
-read-back (pos n) h = rw (lt-ltb n 2147483648 h)
+read-back : (z : ℤ) → mag z < 2000000 → z ≡ readBack (roomWord z)
+read-back (pos n) h = rw (lt-ltb n 2147483648 (omega arith))
 read-back (negsuc n) h =
     let same : 4294967296 - (4294967296 - suc n) ≡ suc n = omega arith in
     rw (le-ltb (4294967296 - suc n) 2147483648 (omega arith), same)
@@ -45,31 +41,31 @@ module _ (machines : ℕ) (rows : List ℕ) (b : ℕ) (z : (roomAnswer machines 
   list-passes : Passes machines rows (listOrder rows)
   list-passes = All-front (λ x. ¬ Holds machines rows x) (listOrder rows) (boundary b ∷ []) room-passes
 
-  -- 64 machines in 168 slots
+  -- 64 machines in 168 slots, 32 jobs of 60,000 hours
   capacity-le : machines * b ≤ 64 * 168
   capacity-le =
       let p = All-back (λ x. ¬ Holds machines rows x) (listOrder rows) (boundary b ∷ []) room-passes in
       let l : b ≤ 168 = omega (arith, p .0) in
       mul-le-mul (few-machines machines rows list-passes) l
 
-  room-fits : Fits (room machines (planned machines rows) b)
-  room-fits = go (decLt (machines * b) (forced jobs b))
+  room-small : mag (room machines (planned machines rows) b) < 2000000
+  room-small = go (decLt (machines * b) (forced jobs b))
     where
       jobs : List Job
       jobs = planned machines rows
 
-      go : Dec (machines * b < forced jobs b) → Fits (room machines jobs b)
+      go : Dec (machines * b < forced jobs b) → mag (room machines jobs b) < 2000000
       go (yes l) = rw (room-short machines jobs b l) (omega (arith, planned-forced machines rows list-passes b))
       go (no l) = rw (room-enough machines jobs b (omega arith)) (omega (arith, capacity-le))
 
-  figure-fits : Fits (roomFigure machines rows b)
+  pub figure-small : mag (roomFigure machines rows b) < 2000000
   unfolding roomFigure
-  figure-fits = rw (eq-eqb ((roomAnswer machines rows b) .number) 0 z) room-fits
+  figure-small = rw (eq-eqb ((roomAnswer machines rows b) .number) 0 z) room-small
 
 pub room-is-read-back : RoomIsReadBack
 unfolding roomWindowAnswer roomPacked
 room-is-read-back machines list b e =
-    (rw packed (mul-mod-right 4294967296 word), rw (packed, upper) (read-back figure (figure-fits machines (wordsOf list) b is-zero)))
+    (rw packed (mul-mod-right 4294967296 word), rw (packed, upper) (read-back figure (figure-small machines (wordsOf list) b is-zero)))
   where
     figure : ℤ
     figure = roomFigure machines (wordsOf list) b

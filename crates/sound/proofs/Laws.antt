@@ -136,11 +136,9 @@ module _ (machines clock : ℕ) where
 -- the jobs that are held
 module _ (desk : Desk) (n : ℕ) (en : n ≡ length (heldOf desk)) where
   module _ (list : Jobs) (ej : asJobs n list ≡ toPlan (desk .machines) (desk .clock) (take n (desk .seats))) where
-    held-jobs : asJobs n list ≡ jobsFor desk
+    pub held-jobs : asJobs n list ≡ jobsFor desk
     unfolding jobsFor
-    held-jobs =
-        ej ∙ ap (λ (k : ℕ). toPlan (desk .machines) (desk .clock) (take k (desk .seats))) en
-        ∙ ap (toPlan (desk .machines) (desk .clock)) (held-first desk)
+    held-jobs = ej ∙ ap (toPlan (desk .machines) (desk .clock)) (held-first desk n en)
 
     pub held-small : seatsOk (desk .clock) 0 (desk .seats) ≡ true → Small n list
     unfolding jobsFor heldOf

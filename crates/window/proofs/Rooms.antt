@@ -1,30 +1,24 @@
 -- A room as a word of 32 bits, and Room at the window, from the answers of its parts.
 use Prim.Native.Nat.{ℕ, _*_, _-_, _/_, _≤_, _<_}
-use native.Mathlib.Nat.{mul-le-mul}
 use native.Mathlib.Omega.{arith}
 use mathlib.Core.Path.{_≡_, refl, sym, _∙_, ap}
 use mathlib.Core.Logic.{_≢_}
-use mathlib.Core.Bool.{Bool, true, false, true≢false}
+use mathlib.Core.Bool.{true, false, true≢false}
 use mathlib.Core.List.{List}
-use lib.Dec.{T, ltb}
+use lib.Dec.{T}
 use lib.IntN.{ℤ, pos, negsuc, natAbs}
 use lib.ListN.{length, take}
 use lib.Signed.{mag, ltZ, nonNeg}
-use borrow.Author.Tests.{ltb-true, ltb-false, eq-eqb, ne-eqb}
-use Rattle.model.specs.Jobs.{forced}
+use borrow.Author.Tests.{ltb-true, eq-eqb, ne-eqb}
 use Rattle.model.specs.Boundaries.{shortage}
 use Rattle.promise.specs.declared.Answer.{Answer}
 use Rattle.promise.specs.declared.RoomAnswer.{RoomAnswer}
-use Rattle.promise.specs.Answers.{yes, refusal, fault}
-use Rattle.promise.specs.Rows.{listFault, listOrder}
-use Rattle.promise.specs.Lists.{planned, Holds, answerOf, roomOrder, roomAnswer, roomFigure, RoomPromise}
+use Rattle.promise.specs.Answers.{refusal}
+use Rattle.promise.specs.Lists.{roomAnswer, roomFigure, RoomPromise}
 use Rattle.promise.specs.Window.{wordsFrom, wordsOf, pack, Packs, roomWord, roomWindowAnswer, roomPacked}
-use Rattle.promise.proofs.Ladder.{same-number, zero-none, zero-yes, first-zero, first-zero-front}
-use Rattle.promise.proofs.Table.{refuses, gives-list, gives-room}
-use Rattle.promise.proofs.Sound.{Passes, few-machines}
-use Rattle.promise.proofs.Bounds.{planned-forced}
-use Rattle.promise.proofs.Theorems.{room-figure-is-the-room, answers-pack}
-use Rattle.figures.proofs.Signed.{sub-mag}
+use Rattle.promise.proofs.Ladder.{same-number}
+use Rattle.promise.proofs.RoomWord.{figure-small}
+use Rattle.promise.proofs.Theorems.{answers-pack}
 use Rattle.window.specs.Bytes.{earlyFault}
 use Rattle.window.proofs.Early.{whole-packed, refused-early, read-next, rows-read}
 
@@ -48,33 +42,7 @@ word-small : (z : ℤ) → mag z < 2000000 → roomWord z < 4294967296
 word-small (pos n) h = omega arith
 word-small (negsuc n) h = omega arith
 
--- a yes of Room: 64 machines in 168 slots, 32 jobs of 60,000 hours
-module _ (machines : ℕ) (rows : List ℕ) (b : ℕ) (z : (roomAnswer machines rows b) .number ≡ 0) where
-  passes : Passes machines rows (listOrder rows)
-  unfolding roomAnswer
-  passes =
-      zero-none (Holds machines rows) (answerOf machines rows) (refuses machines rows) (listOrder rows) (listFault machines rows)
-      (first-zero-front (listFault machines rows) (fault (ltb 168 b) (refusal 9 0 0)) z) (gives-list machines rows)
-
-  near : b ≤ 168
-  unfolding roomAnswer
-  near = go (ltb 168 b) refl (first-zero (listFault machines rows) (fault (ltb 168 b) (refusal 9 0 0)) z)
-    where
-      go : (t : Bool) → ltb 168 b ≡ t → (fault t (refusal 9 0 0)) .number ≡ 0 → b ≤ 168
-      go true p q = absurd (omega arith)
-      go false p q = ltb-false 168 b p
-
-  figure-small : mag (roomFigure machines rows b) < 2000000
-  figure-small =
-      rw (room-figure-is-the-room machines rows b .0 is-yes)
-      (sub-mag (machines * b) (forced (planned machines rows) b) 2000000 (omega (arith, mul-le-mul (few-machines machines rows passes) near))
-      (omega (arith, planned-forced machines rows passes b)))
-    where
-      is-yes : roomAnswer machines rows b ≡ yes
-      is-yes =
-          zero-yes (Holds machines rows) (answerOf machines rows) (refuses machines rows) (roomOrder rows b) (roomAnswer machines rows b) z
-          (gives-room machines rows b)
-
+-- what the planner answered
 module _ (machines : ℕ) (rows : List ℕ) (b : ℕ) (told : RoomAnswer) (p : RoomPromise machines rows b told) where
   pub told-packs : Packs (told .answer)
   told-packs = rw (p .answered) (answers-pack machines rows b .1)

@@ -1,7 +1,7 @@
 use Prim.Native.Nat.{_<_}
 use native.Mathlib.Omega.{arith}
 use mathlib.Core.Path.{_≡_, _∙_, ap}
-use lib.ListN.{length, take}
+use lib.ListN.{length}
 use borrow.Author.Needs.{needs}
 use Rattle.promise.specs.Desk.{heldOf}
 use Rattle.promise.specs.DeskCalls.{seated}
@@ -19,9 +19,7 @@ place : (c : tie.After-rank) → c .rank .result ≡ rankIn (c .before .args .h 
 place c =
     let a = c .before .args in
     let p = c .before .pre in
-    c .rank .ensures
-    ∙ ap (λ k. rankIn (a .h .number) (take k (a .desk .seats))) (p .0)
-    ∙ ap (rankIn (a .h .number)) (held-first (a .desk))
+    c .rank .ensures ∙ ap (rankIn (a .h .number)) (held-first (a .desk) _ (p .0))
 
 insert-requires : tie.Need-insert-requires
 insert-requires c κs =
