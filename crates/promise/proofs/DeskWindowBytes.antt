@@ -93,23 +93,6 @@ module _ (bytes : List ℕ) where
   pair-numbers : length (pairing bytes) ≡ 64
   pair-numbers = omega (arith, each-length pairNumbers 2 (λ g. refl) ((runOf (deskRead bytes)) .given), whole .pairs)
 
-  module _ (j : Job) (n : ℕ) (lent : List ℕ) where
-    lengths-stay : (machines : ℕ) → LengthsStay machines bytes j n lent
-    unfolding recordOpened openBytesAnswer recordAdmitted admitBytesAnswer recordWithdrawn withdrawBytesAnswer figuresTold lookBytesAnswer recordRun pairsTold runBytesAnswer
-    lengths-stay machines = record {
-      open′ = record-same (openBytesAnswer machines bytes) _ bytes (opened-whole machines) (open-long bytes machines);
-      admit = record-same (admitBytesAnswer bytes j) _ bytes (whole .admit j) (λ z. record-long bytes (first-zero-front (recordFault bytes) _ z));
-      withdraw = record-same (withdrawBytesAnswer bytes n) _ bytes (whole .withdraw n) (λ z. record-long bytes (first-zero-front (recordFault bytes) _ z));
-      look = output-same (lookBytesAnswer bytes n lent) (looks bytes n) lent (λ z. output-long bytes (length lent) 16 (first-zero-front (outputFault bytes (length lent) 16) _ z));
-      run = (
-        record-same (runBytesAnswer bytes lent) _ bytes (whole .run) (λ z. output-record bytes (length lent) 256 (first-zero-front (outputFault bytes (length lent) 256) _ z)),
-        output-same (runBytesAnswer bytes lent) (pairing bytes) lent (λ z. omega (arith, pair-numbers, output-long bytes (length lent) 256 (first-zero-front (outputFault bytes (length lent) 256) _ z))),
-      );
-    }
-
-pub desk-window-refusal-leaves-the-bytes : DeskWindowRefusalLeavesTheBytes
-desk-window-refusal-leaves-the-bytes machines bytes j n lent = (left-as-lent machines bytes j n lent, lengths-stay bytes j n lent machines)
-
 -- ---- the desk, handed on
 
 record-read : (a : Answer) (new : Desk) (bytes : List ℕ) → Seated new → (a .number ≢ 0 → new ≡ deskRead bytes) → deskRead (recordLeft a new bytes) ≡ new
@@ -165,7 +148,27 @@ module _ (bytes : List ℕ) (e : length bytes ≡ 776) where
 pub desk-window-hands-the-desk-on : DeskWindowHandsTheDeskOn
 desk-window-hands-the-desk-on bytes e = (open-handed-on bytes e, desk-handed-on bytes e)
 
--- each call on the record that the last one left
+-- ---- no length changes
+
+module _ (bytes : List ℕ) (j : Job) (n : ℕ) (lent : List ℕ) where
+  lengths-stay : (machines : ℕ) → LengthsStay machines bytes j n lent
+  unfolding recordOpened openBytesAnswer recordAdmitted admitBytesAnswer recordWithdrawn withdrawBytesAnswer figuresTold lookBytesAnswer recordRun pairsTold runBytesAnswer
+  lengths-stay machines = record {
+    open′ = record-same (openBytesAnswer machines bytes) _ bytes (opened-whole machines) (open-long bytes machines);
+    admit = record-same (admitBytesAnswer bytes j) _ bytes (whole bytes .admit j) (λ z. record-long bytes (first-zero-front (recordFault bytes) _ z));
+    withdraw = record-same (withdrawBytesAnswer bytes n) _ bytes (whole bytes .withdraw n) (λ z. record-long bytes (first-zero-front (recordFault bytes) _ z));
+    look = output-same (lookBytesAnswer bytes n lent) (looks bytes n) lent (λ z. output-long bytes (length lent) 16 (first-zero-front (outputFault bytes (length lent) 16) _ z));
+    run = (
+      record-same (runBytesAnswer bytes lent) _ bytes (whole bytes .run) (λ z. output-record bytes (length lent) 256 (first-zero-front (outputFault bytes (length lent) 256) _ z)),
+      output-same (runBytesAnswer bytes lent) (pairing bytes) lent (λ z. omega (arith, pair-numbers bytes, output-long bytes (length lent) 256 (first-zero-front (outputFault bytes (length lent) 256) _ z))),
+    );
+  }
+
+pub desk-window-refusal-leaves-the-bytes : DeskWindowRefusalLeavesTheBytes
+desk-window-refusal-leaves-the-bytes machines bytes j n lent = (left-as-lent machines bytes j n lent, lengths-stay bytes j n lent machines)
+
+-- ---- each call on the record that the last one left
+
 history-goes-on : (given bytes : List ℕ) (calls : List Call) → 256 ≤ length given → length bytes ≡ 776
     → (length (recordAfter given bytes calls) ≡ 776) × (deskRead (recordAfter given bytes calls) ≡ History.deskFrom (deskRead bytes) calls)
 history-goes-on given bytes [] l e = (e, refl)

@@ -44,6 +44,17 @@ module _ (desk : Desk) (seated : Seated desk) where
   clear-sound z =
       ⊎-elim (λ l. absurd (let w : 12 ≡ 0 = sym (same-number (l .1)) ∙ z in omega arith)) (λ l. really (tells-sound desk seated) (l .0)) sound-or-not
 
+module _ (machines : ℕ) (bytes : List ℕ) where
+  pub opened-in-order : OpenedInOrder machines bytes
+  unfolding openBytesAnswer
+  opened-in-order =
+      let t = open-answers-by-the-table machines in
+      record {
+        one = λ h. rw (t .1 h) refl;
+        six = λ l k h. rw (t .0 (l, k), ne-eqb (length bytes) 776 h) refl;
+        opens = λ l k h. rw (t .0 (l, k), eq-eqb (length bytes) 776 h) refl;
+      }
+
 module _ (bytes : List ℕ) where
   not-a-record : length bytes ≢ 776 → recordFault bytes ≡ refusal 12 0 0
   unfolding recordFault
@@ -131,17 +142,6 @@ module _ (bytes : List ℕ) where
         run-six = λ l. rw (short-six 256 l) refl;
         run-eleven = λ l h. rw (long-clear 256 l, eleven h) refl;
         run = λ l h. rw (long-clear 256 l, runs h) refl;
-      }
-
-module _ (machines : ℕ) (bytes : List ℕ) where
-  pub opened-in-order : OpenedInOrder machines bytes
-  unfolding openBytesAnswer
-  opened-in-order =
-      let t = open-answers-by-the-table machines in
-      record {
-        one = λ h. rw (t .1 h) refl;
-        six = λ l k h. rw (t .0 (l, k), ne-eqb (length bytes) 776 h) refl;
-        opens = λ l k h. rw (t .0 (l, k), eq-eqb (length bytes) 776 h) refl;
       }
 
 pub desk-window-answers-by-the-table : DeskWindowAnswersByTheTable

@@ -84,14 +84,18 @@ window-counts-bytes machines list size = (row-count list, ((λ l. omega arith), 
 
 -- 1 and 2 at the window
 module _ (machines : ℕ) (list : List ℕ) where
-  bad-count : (machines < 1) ⊎ (64 < machines) → (b : Answer) → first (bytesFault machines list) b ≡ refusal 1 0 0
-  unfolding bytesFault countFault
-  bad-count (inl l) b = rw (lt-ltb machines 1 l) refl
-  bad-count (inr l) b = go (ltb machines 1)
+  one : (machines < 1) ⊎ (64 < machines) → countFault machines ≡ refusal 1 0 0
+  unfolding countFault
+  one (inl l) = rw (lt-ltb machines 1 l) refl
+  one (inr l) = go (ltb machines 1)
     where
-      go : (t : Bool) → first (first (fault (t || ltb 64 machines) (refusal 1 0 0)) (fault (not (eqb (length list % 16) 0)) (refusal 2 0 0))) b ≡ refusal 1 0 0
+      go : (t : Bool) → fault (t || ltb 64 machines) (refusal 1 0 0) ≡ refusal 1 0 0
       go true = refl
       go false = rw (lt-ltb 64 machines l) refl
+
+  bad-count : (machines < 1) ⊎ (64 < machines) → (b : Answer) → first (bytesFault machines list) b ≡ refusal 1 0 0
+  unfolding bytesFault
+  bad-count h b = rw (one h) refl
 
   module _ (h : ¬ ((machines < 1) ⊎ (64 < machines))) where
     good-count : countFault machines ≡ yes
@@ -101,13 +105,13 @@ module _ (machines : ℕ) (list : List ℕ) where
         let n : ¬ (64 < machines) = λ l. h (inr l) in
         rw (le-ltb machines 1 (omega arith), le-ltb 64 machines (omega arith)) refl
 
-    bad-length : length list % 16 ≢ 0 → (b : Answer) → first (bytesFault machines list) b ≡ refusal 2 0 0
-    unfolding bytesFault
-    bad-length k b = rw (good-count, ne-eqb (length list % 16) 0 k) refl
-
     good-length : length list % 16 ≡ 0 → (b : Answer) → first (bytesFault machines list) b ≡ b
     unfolding bytesFault
     good-length k b = rw (good-count, eq-eqb (length list % 16) 0 k) refl
+
+    bad-length : length list % 16 ≢ 0 → (b : Answer) → first (bytesFault machines list) b ≡ refusal 2 0 0
+    unfolding bytesFault
+    bad-length k b = rw (good-count, ne-eqb (length list % 16) 0 k) refl
 
 pub window-takes-sixteen-a-row : WindowTakesSixteenARow
 unfolding windowAnswer roomWindowAnswer

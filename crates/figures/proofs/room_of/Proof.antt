@@ -1,3 +1,4 @@
+use Prim.Native.Nat.{_<_}
 use native.Mathlib.Omega.{arith}
 use Rattle.figures.proofs.Signed.{sub-mag, back, of-u32}
 use borrow.Author.Needs.{needs}
@@ -12,8 +13,10 @@ cast-result-2 c = search needs
 
 sub-result : tie.Need-sub-result
 sub-result c =
+    let x : c .args .capacity < 2147483648 = omega arith in
+    let y : c .args .forced < 2147483648 = omega arith in
     rw (of-u32 (c .args .capacity) (omega arith), of-u32 (c .args .forced) (omega arith))
-    (record { sfits = sub-mag (c .args .capacity) (c .args .forced) 2147483648 (omega arith) (omega arith) })
+    (record { sfits = search (needs, sub-mag) })
 
 returns : tie.Need-returns
 returns c =
