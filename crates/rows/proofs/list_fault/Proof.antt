@@ -1,3 +1,4 @@
+use native.Mathlib.Omega.{arith}
 use mathlib.Core.Path.{_∙_}
 use Rattle.rows.proofs.Laws.{few-rows, miscounted, broken-row, many-rows, rows-only}
 use borrow.Author.Needs.{needs}
@@ -30,7 +31,7 @@ returns-3 c =
     let i = c .before .before .before in
     let s = i .before .before in
     let a = s .before .before .args in
-    c .refuse2 .ensures ∙ many-rows (a .machines) (a .rows .now) (s .count-fault .result) (s .count-fault .ensures) (i .if1 .left) (c .before .before .if2 .left) (c .before .if3 .taken)
+    c .refuse2 .ensures ∙ many-rows (a .machines) (a .rows .now) (s .count-fault .result) (s .count-fault .ensures) (i .if1 .left) (c .before .before .if2 .left) (omega arith)
 
 rows-fault-requires : tie.Need-rows-fault-requires
 rows-fault-requires c κs = few-rows (c .before .before .before .before .before .before .args .rows .now) (c .if3 .left)

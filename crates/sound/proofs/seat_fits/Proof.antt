@@ -1,7 +1,9 @@
-use Prim.Native.Nat.{_≤_}
+use Prim.Native.Nat.{_-_, _≤_}
 use native.Mathlib.Nat.{mul-le-mul}
 use native.Mathlib.Omega.{arith}
 use mathlib.Core.Path.{refl}
+use mathlib.Core.Bool.{and-false}
+use lib.Dec.{leb}
 use Rattle.promise.specs.DeskCalls.{seatFits}
 use borrow.Author.Tests.{le-leb, lt-leb}
 use borrow.Author.Needs.{needs}
@@ -31,7 +33,16 @@ sub-if5 c = search needs
 
 returns-5 : tie.Need-returns-5
 unfolding seatFits
-returns-5 c = search (needs, le-leb, lt-leb)
+returns-5 c =
+    let a = c .before .before .before .before .before .before .before .before .before .before .before .args in
+    let h = a .h in
+    rw (
+      le-leb 1 (h .bound) (omega arith),
+      le-leb (h .bound) 64 (omega arith),
+      le-leb 1 (h .slots) (omega arith),
+      lt-leb (h .deadline - a .clock) (h .slots) (omega arith),
+      and-false (leb (h .slots) 168),
+    ) refl
 
 mul-result : tie.Need-mul-result
 mul-result c =
