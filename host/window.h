@@ -45,8 +45,9 @@
  * still sound is not noticed.
  *
  * ANSWERS. Each call returns number + 256 * place + 2^32 * amount (a yes of vezhdanur_room and of
- * vezhdanur_withdraw has a figure for an amount, see there). Number 0 is a yes. Any other number is
- * a refusal, and then nothing has been written to any buffer:
+ * vezhdanur_withdraw has a figure for an amount, see there). Number 0 is a yes, and of the other
+ * calls the whole answer is then 0. Any other number is a refusal, and then nothing has been
+ * written to any buffer:
  *
  *   no.  given when                                     place                 amount
  *    1   machines is not 1 to 64                        0                     0
@@ -77,7 +78,7 @@
  * not null, even where the length is 0. No two buffers of a call overlap, and no other thread
  * writes to them during the call. Everything else is tested: any numbers, any lengths and any
  * bytes of a record get an answer. The calls keep nothing between them, so several threads may
- * call at once, each with its own plan buffer and its own record.
+ * call at once, each with its own buffers to be written to.
  */
 #ifndef VEZHDANUR_WINDOW_H
 #define VEZHDANUR_WINDOW_H
@@ -111,8 +112,9 @@ uint64_t vezhdanur_plan(uint32_t machines, const uint8_t *list, size_t list_len,
 /* The same planner on numbers. Both lengths count numbers, not bytes.
  *
  * Field f of row i is rows[4 * i + f - 1]. A rows_len that is no multiple of 4 is a 2; rows_len / 4
- * is n. A yes writes 168 * n numbers: the machines of row i in slot t are plan[168 * i + t - 1].
- * Numbers after these stay as they were. A plan_len below 168 * n is a 6. */
+ * is n. A yes writes 168 * n numbers, zeros included: the machines of row i in slot t are
+ * plan[168 * i + t - 1]. Numbers after these stay as they were. A plan_len below 168 * n is a 6. An
+ * empty list is a yes and writes nothing. */
 uint64_t vezhdanur_plan_numbers(uint32_t machines, const uint32_t *rows, size_t rows_len,
                                 uint16_t *plan, size_t plan_len);
 
@@ -124,8 +126,8 @@ uint64_t vezhdanur_plan_numbers(uint32_t machines, const uint32_t *rows, size_t 
 uint64_t vezhdanur_room(uint32_t machines, const uint8_t *list, size_t list_len,
                         uint32_t boundary);
 
-/* Writes the record of an empty desk at clock 0. Here and below, desk_len is VEZHDANUR_DESK_BYTES
- * and the buffers may have any alignment. */
+/* Writes the record of an empty desk at clock 0. A desk_len other than VEZHDANUR_DESK_BYTES is a 6
+ * here, and a 12 in the calls below. All their buffers may have any alignment. */
 uint64_t vezhdanur_open(uint32_t machines, uint8_t *desk, size_t desk_len);
 
 /* Takes a job if the held jobs and the new one fit. Its deadline must be clock + 1 to clock + 168
@@ -138,16 +140,17 @@ uint64_t vezhdanur_admit(uint8_t *desk, size_t desk_len, uint32_t number, uint32
  * test vezhdanur_answer_number; vezhdanur_answer_remaining takes the work. */
 uint64_t vezhdanur_withdraw(uint8_t *desk, size_t desk_len, uint32_t number);
 
-/* Writes four numbers of a held job, four bytes each: remaining work, deadline, bound, leeway. The
- * leeway is 100 * slots at admission / run length of the admitted work, rounded down. Bytes of
- * `figures` after these 16 stay as they were. */
+/* Writes four numbers of a held job, four bytes each, lowest byte first: remaining work, deadline,
+ * bound, leeway. The leeway is 100 * slots at admission / run length of the admitted work, rounded
+ * down. Bytes of `figures` after these 16 stay as they were. A figures_len below 16 is a 6. */
 uint64_t vezhdanur_look(const uint8_t *desk, size_t desk_len, uint32_t number,
                         uint8_t *figures, size_t figures_len);
 
 /* Runs the next slot: slot 1 of the plan of the held jobs. Writes 32 pairs of job number and
- * machines, four bytes each: one for each job held before the call, in the order of the seats, with
- * 0 machines too, then zeros. Bytes of `given` after these 256 stay as they were. Remaining works
- * fall, a job with none left leaves, and the clock rises by one. */
+ * machines, four bytes each, lowest byte first: one for each job held before the call, in the order
+ * of the seats, with 0 machines too, then zeros. Bytes of `given` after these 256 stay as they were,
+ * and a given_len below 256 is a 6. Remaining works fall, a job with none left leaves, and the clock
+ * rises by one. */
 uint64_t vezhdanur_run(uint8_t *desk, size_t desk_len, uint8_t *given, size_t given_len);
 
 /* The number of an answer: 0 for a yes, else the refusal. */
@@ -162,7 +165,7 @@ static inline uint32_t vezhdanur_answer_place(uint64_t answer)
     return (uint32_t)(answer >> 8 & 0xffffff);
 }
 
-/* The amount of an answer of a plan call or of vezhdanur_admit, or of any refusal. */
+/* The amount of any answer but a yes of vezhdanur_room or vezhdanur_withdraw. */
 static inline uint32_t vezhdanur_answer_amount(uint64_t answer)
 {
     return (uint32_t)(answer >> 32);

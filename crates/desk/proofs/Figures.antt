@@ -15,7 +15,7 @@ use Rattle.promise.specs.Answers as Answers
 use Rattle.promise.specs.Answers.{refusal}
 use Rattle.promise.specs.Desk.{Sound, leeway}
 use Rattle.promise.specs.DeskCalls.{isSound, soundFault, newHeld}
-use Rattle.promise.specs.DeskClaims.{Seated}
+use Rattle.promise.specs.DeskClaims.{Has32Seats}
 use Rattle.figures.specs.declared.Job.{Job}
 use Rattle.figures.specs.Jobs.{asJob}
 use Rattle.walk.specs.declared.Fit.{Fit}
@@ -42,7 +42,7 @@ unfolding width
 width-positive machines bound m b = b
 
 -- a desk that passes the sound test
-module _ (desk : Desk) (len : Seated desk) (f : Answer) (told : f ≡ soundFault desk) (zero : f .number ≡ 0) where
+module _ (desk : Desk) (len : Has32Seats desk) (f : Answer) (told : f ≡ soundFault desk) (zero : f .number ≡ 0) where
   passed : isSound desk ≡ true
   unfolding soundFault
   passed = go (isSound desk) refl

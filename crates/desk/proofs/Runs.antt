@@ -20,7 +20,7 @@ use Rattle.promise.specs.declared.Desk.{Desk}
 use Rattle.promise.specs.declared.Given.{Given}
 use Rattle.promise.specs.Desk.{heldOf, deskOf, toPlan, jobsFor, column, Sound}
 use Rattle.promise.specs.DeskCalls.{soundFault, pairs, givenOf, afterRun, runAnswer, runOf}
-use Rattle.promise.specs.DeskClaims.{Seated}
+use Rattle.promise.specs.DeskClaims.{Has32Seats}
 use Rattle.promise.proofs.Ladder.{same-number, first-zero-front}
 use Rattle.promise.proofs.DeskSeats.{held-first, to-plan-distinct}
 use Rattle.promise.proofs.DeskTable.{run-yes}
@@ -35,7 +35,7 @@ module _ (desk : Desk) (a : Answer) (e : a ≡ runAnswer desk) where
   unfolding runOf
   run-refused h = rw (← e, ne-eqb (a .number) 0 h) refl
 
-  module _ (zero : a .number ≡ 0) (len : Seated desk) where
+  module _ (zero : a .number ≡ 0) (len : Has32Seats desk) where
     pub run-sound : Sound desk
     unfolding runAnswer
     run-sound = good desk len (soundFault desk) refl (first-zero-front (soundFault desk) _ (sym (same-number e) ∙ zero))

@@ -21,7 +21,7 @@ ghost use Rattle.promise.specs.DeskCalls.{newHeld, deskFit, soundFault, openOf,
 ghost use Rattle.desk.specs.Calls.{seatFault, admitFault, Near};
 
 // A desk with no job, at clock 0.
-pub fn empty(machines: u32) -> Desk
+fn empty(machines: u32) -> Desk
     ensures { λ r. ⌜ r ≡ deskOf machines 0 [] ⌝ }
 {
     let free = seats::free_seat();
@@ -60,7 +60,7 @@ pub fn sound_fault(desk: Desk) -> Answer
 }
 
 // The last slot that a job may be due in.
-pub fn last_due(clock: u32) -> u32
+fn last_due(clock: u32) -> u32
     requires { ⌜ clock ≤ 100000 ⌝ }
     ensures { λ r. ⌜ r ≡ min (clock + 168) 100000 ⌝ }
 {
@@ -71,7 +71,7 @@ pub fn last_due(clock: u32) -> u32
 }
 
 // A 5 if the number is held, an 8 if all seats are.
-pub fn seat_fault(desk: Desk, n: usize, number: u32) -> Answer
+fn seat_fault(desk: Desk, n: usize, number: u32) -> Answer
     requires { ⌜ (n ≤ 32) × (n ≡ length (heldOf desk)) ⌝ }
     ensures { λ r. ⌜ r ≡ seatFault desk number ⌝ }
 {
@@ -85,7 +85,7 @@ pub fn seat_fault(desk: Desk, n: usize, number: u32) -> Answer
 }
 
 // 12, 4, 5, 8.
-pub fn admit_fault(desk: Desk, j: Job) -> Answer
+fn admit_fault(desk: Desk, j: Job) -> Answer
     ensures { λ r. ⌜ r ≡ admitFault desk (asJob j) ⌝ }
 {
     let unsound = sound_fault(desk);
@@ -100,7 +100,7 @@ pub fn admit_fault(desk: Desk, j: Job) -> Answer
 }
 
 // The job that is asked for, as it is seated.
-pub fn new_held(clock: u32, j: Job) -> Held
+fn new_held(clock: u32, j: Job) -> Held
     ensures { λ r. ⌜ r ≡ newHeld clock (asJob j) ⌝ }
 {
     Held {
@@ -114,7 +114,7 @@ pub fn new_held(clock: u32, j: Job) -> Held
 }
 
 // A 7 if the walk came to a short boundary, named by its slot on the clock.
-pub fn desk_fit(clock: u32, fit: Fit) -> Answer
+fn desk_fit(clock: u32, fit: Fit) -> Answer
     requires { ⌜ (clock ≤ 100000) × Near fit ⌝ }
     ensures { λ r. ⌜ r ≡ deskFit clock (asShort fit) ⌝ }
 {
@@ -180,7 +180,7 @@ pub fn withdraw(desk: Desk, number: u32) -> Withdrawn
 }
 
 // 100 × slots at admission / run length of the admitted work.
-pub fn leeway_of(h: Held, machines: u32) -> u32
+fn leeway_of(h: Held, machines: u32) -> u32
     requires { ⌜ (1 ≤ machines) × (h .slots ≤ 168) × (1 ≤ h .work) × (1 ≤ h .bound) ⌝ }
     ensures { λ r. ⌜ r ≡ leeway machines h ⌝ }
 {
@@ -225,7 +225,7 @@ pub fn look(desk: Desk, number: u32) -> Looked
 }
 
 // 12, 11.
-pub fn run_fault(desk: Desk) -> Answer
+fn run_fault(desk: Desk) -> Answer
     ensures { λ r. ⌜ r ≡ runAnswer desk ⌝ }
 {
     let unsound = sound_fault(desk);

@@ -17,7 +17,7 @@ use Rattle.promise.specs.Texts.{allWithin, isNumber, isLabel, valueFrom, readNu
 use Rattle.promise.specs.JobFile.{afterKey, numberTold, labelTold, notRead}
 use Rattle.promise.specs.Answers.{yes, refusal}
 use Rattle.jobfile.specs.declared.Kept.{Kept}
-use Rattle.jobfile.specs.Reader.{lineEnd, given, startsWith, keepNumber, groupsIn, mayEnd, finished}
+use Rattle.jobfile.specs.Reader.{lineEnd, isThere, startsWith, keepNumber, groupsIn, mayEnd, finished}
 
 -- the end of a line, from index i on
 module _ (bytes : List ℕ) (i : ℕ) where
@@ -88,7 +88,7 @@ key-after [] line e = (omega arith, refl)
 key-after (k ∷ key) [] e = absurd (let z : _≡_ {A = ℕ} 0 1 = cc in omega arith)
 key-after (k ∷ key) (b ∷ line) e = go (eqb b k) e (key-after key line)
   where
-    go : (t : Bool) → given (cond t (afterKey key line) none) ≡ true
+    go : (t : Bool) → isThere (cond t (afterKey key line) none) ≡ true
         → (startsWith key line ≡ true → (length key ≤ length line) × (afterKey key line ≡ some (drop (length key) line)))
         → (suc (length key) ≤ suc (length line)) × (cond t (afterKey key line) none ≡ some (drop (length key) line))
     go true e f = (omega (arith, f e .0), f e .1)
@@ -107,7 +107,7 @@ module _ (key line : List ℕ) (e : startsWith key line ≡ true) where
 pub key-missing : (key line : List ℕ) → startsWith key line ≡ false → afterKey key line ≡ none
 key-missing key line e = go (afterKey key line) e
   where
-    go : (o : Option (List ℕ)) → given o ≡ false → o ≡ none
+    go : (o : Option (List ℕ)) → isThere o ≡ false → o ≡ none
     go none e = refl
     go (some text) e = absurd (let z : _≡_ {A = ℕ} 0 1 = cc in omega arith)
 

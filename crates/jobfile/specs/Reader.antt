@@ -35,15 +35,15 @@ lineLength (b ∷ bs) = cond (eqb b newline) 0 (suc (lineLength bs))
 abbrev pub lineEnd : List ℕ → ℕ → ℕ
 lineEnd bytes at = at + lineLength (drop at bytes)
 
+abbrev pub isThere : Option (List ℕ) → Bool
+isThere none = false
+isThere (some text) = true
+
 -- a line that starts with a key
-abbrev pub given : Option (List ℕ) → Bool
-given none = false
-given (some text) = true
-
 abbrev pub startsWith : List ℕ → List ℕ → Bool
-startsWith key line = given (afterKey key line)
+startsWith key line = isThere (afterKey key line)
 
--- one line more: the first number is the machine count, the next go to the rows, and those past them are only counted
+-- one number more: the first number is the machine count, the next go to the rows, and those past them are only counted
 abbrev pub keepNumber : Kept → ℕ → Kept
 keepNumber k n =
     cond (eqb (k .count) 0)

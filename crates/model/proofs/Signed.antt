@@ -51,13 +51,6 @@ module _ (C : ℕ) (jobs : List Job) (b : ℕ) where
       go (yes l) = l
       go (no l) = absurd (omega (arith, ltb→lt (C * b - forced jobs b) 0 ((rw (room-enough (omega arith)) at h) .lt)))
 
-  pub not-short : pos 0 ≤ℤ room C jobs b → ltZ (room C jobs b) (pos 0) ≡ false
-  not-short h =
-      rw (room-enough (room-forced h)) (le-ltb (C * b - forced jobs b) 0 (omega arith))
-
-  pub is-short : room C jobs b <ℤ pos 0 → ltZ (room C jobs b) (pos 0) ≡ true
-  is-short h = rw (room-short (room-over h)) refl
-
 pub short-true : (z : ℤ) → ltZ z (pos 0) ≡ true → z <ℤ pos 0
 short-true (pos n) e = absurd (omega (arith, ltb-true n 0 e))
 short-true (negsuc n) e = record { lt = tt }

@@ -1,5 +1,5 @@
 -- The headline statements of specs/Claims.antt, one theorem each.
-use Rattle.model.specs.Claims.{ScheduleExactlyIfRoom, ForcedIsTotalLessLambda, DocumentSaysTheSame, NothingIsCutOff, ZeroIsShort, BoundariesSuffice, BoundariesAreListed, LeastShortIsNamed, NoneShortIsNamed, SlotLemma, PlanIsValid, PlanIsTheRule, StartPlaysNoPart, OrderPlaysNoPart, RowsAreThePlan, FirstColumnLeavesRoom, EasierStaysPossible, CountedChangesNothing}
+use Rattle.model.specs.Claims.{ScheduleExactlyIfRoom, ForcedIsTotalLessLambda, DocumentSaysTheSame, NothingIsCutOff, ZeroIsShort, BoundariesSuffice, BoundariesAreListed, LeastShortIsNamed, NoneShortIsNamed, SlotLemma, PlanIsValid, PlanIsTheRule, StartPlaysNoPart, OrderPlaysNoPart, RowsAreThePlan, FirstColumnLeavesRoom, EasierStaysPossible, BoundsCountAsAsked, CountedChangesNothing}
 use Rattle.model.proofs.Exactly
 use Rattle.model.proofs.Document
 use Rattle.model.proofs.AllSlots
@@ -76,5 +76,8 @@ pub easier-stays-possible : EasierStaysPossible
 easier-stays-possible = Easier.easier-stays-possible
 
 -- the counted jobs
+pub bounds-count-as-asked : BoundsCountAsAsked
+bounds-count-as-asked = Exactly.bounds-count-as-asked
+
 pub counted-changes-nothing : CountedChangesNothing
 counted-changes-nothing = Exactly.counted-changes-nothing

@@ -18,7 +18,7 @@ Boundary jobs b = (b ≡ 0) ⊎ ((j : Job) × List·Memᴰ j jobs × (j .deadlin
 abbrev pub RoomEverywhere : ℕ → List Job → Type 0
 RoomEverywhere C jobs = (b : ℕ) → Boundary jobs b → pos 0 ≤ℤ room C jobs b
 
--- d put into a rising list at its place, once
+-- d put into a rising list where it belongs, once
 abbrev pub enter : ℕ → List ℕ → List ℕ
 enter d [] = d ∷ []
 enter d (b ∷ bs) = cond (ltb d b) (d ∷ b ∷ bs) (cond (eqb d b) (b ∷ bs) (b ∷ enter d bs))

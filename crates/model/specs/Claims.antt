@@ -101,6 +101,10 @@ abbrev pub EasierStaysPossible : Type 0
 EasierStaysPossible =
     (C C′ : ℕ) (jobs jobs′ : List Job) → C ≤ C′ → Eases jobs′ jobs → Distinct (numbers jobs) → Possible C jobs → Possible C′ jobs′
 
+-- the bound that counts is the job's own: the jobs that are planned are those that were asked for
+abbrev pub BoundsCountAsAsked : Type 0
+BoundsCountAsAsked = (C : ℕ) (jobs : List Job) → counted C jobs ≡ jobs
+
 -- the jobs as they count have the valid schedules of the jobs as they were asked for
 abbrev pub CountedChangesNothing : Type 0
 CountedChangesNothing = (C : ℕ) (jobs : List Job) (y : ℕ → ℕ → ℕ) → Valid C (counted C jobs) y ↔ Valid C jobs y

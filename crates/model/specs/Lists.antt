@@ -1,4 +1,4 @@
--- Sums, "each of a list", lists with the same members: what the other files are written with.
+-- Sums, a statement of each member, lists with the same members: what the other files are written with.
 use Prim.Native.Nat.{ℕ, zero, suc, _+_, _<_}
 use mathlib.Core.Logic.{_≢_}
 use mathlib.Core.List.{List, [], _∷_}

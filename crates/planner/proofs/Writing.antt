@@ -18,7 +18,7 @@ use Rattle.model.proofs.Rows.{rows-are-the-plan}
 use Rattle.model.proofs.Start.{start-plays-no-part}
 use Rattle.promise.specs.Lists.{written}
 use Rattle.promise.proofs.Buffer.{flat-length, flat-at, span-length, span-at}
-use Rattle.planner.specs.Writing.{columnOf, writeFrom}
+use Rattle.planner.specs.Writing.{columnOf}
 
 -- the place of slot t in row i
 at : ℕ → ℕ → ℕ
@@ -27,6 +27,11 @@ at i t = 168 * i + t - 1
 pub column-length : (t i : ℕ) (ps : List Model.Share) (plan : List ℕ) → length (columnOf t i ps plan) ≡ length plan
 column-length t i [] plan = refl
 column-length t i (p ∷ ps) plan = column-length t (suc i) ps (set plan (168 * i + t - 1) (p .given)) ∙ length-set plan (168 * i + t - 1) (p .given)
+
+-- slots t down to 1 filled with C machines each, and written
+abbrev pub writeFrom : ℕ → ℕ → List Model.Share → List ℕ → List ℕ
+writeFrom C zero ps plan = plan
+writeFrom C (suc t) ps plan = writeFrom C t (fill C (suc t) ps) (columnOf (suc t) 0 (fill C (suc t) ps) plan)
 
 pub write-length : (C t : ℕ) (ps : List Model.Share) (plan : List ℕ) → length (writeFrom C t ps plan) ≡ length plan
 write-length C zero ps plan = refl

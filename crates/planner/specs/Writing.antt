@@ -1,11 +1,10 @@
 -- How the code writes a plan: slot by slot, one number in each row.
-use Prim.Native.Nat.{ℕ, zero, suc, _+_, _*_, _-_, _≤_}
+use Prim.Native.Nat.{ℕ, suc, _+_, _*_, _-_, _≤_}
 use mathlib.Core.List.{List, [], _∷_}
 use lib.ListN.{set}
 use Rattle.model.specs.Lists.{All, Distinct}
 use Rattle.model.specs.Jobs.{numbers}
 use Rattle.model.specs.Rule as Model
-use Rattle.model.specs.Rule.{fill}
 use Rattle.figures.specs.declared.Job.{Job}
 use Rattle.rule.specs.declared.Share.{Share}
 use Rattle.rule.specs.declared.Table.{Table}
@@ -22,16 +21,11 @@ abbrev pub columnOf : ℕ → ℕ → List Model.Share → List ℕ → List ℕ
 columnOf t i [] plan = plan
 columnOf t i (p ∷ ps) plan = columnOf t (suc i) ps (set plan (168 * i + t - 1) (p .given))
 
--- slots t down to 1 filled with C machines each, and written
-abbrev pub writeFrom : ℕ → ℕ → List Model.Share → List ℕ → List ℕ
-writeFrom C zero ps plan = plan
-writeFrom C (suc t) ps plan = writeFrom C t (fill C (suc t) ps) (columnOf (suc t) 0 (fill C (suc t) ps) plan)
-
 -- the machines of each share fit 16 bits
 abbrev pub Slim : ℕ → Table → Type 0
 Slim n table = All (λ p. p .given ≤ 65535) (sharesOf n table)
 
--- jobs that can be planned: numbers that differ, bounds that fit 16 bits, deadlines up to 168
+-- jobs that can be planned: numbers that differ, bounds up to 64, deadlines up to 168
 pub record Plannable (n : ℕ) (list : Jobs) : Type 0 where
   pub apart : Distinct (numbers (asJobs n list))
   pub bounds : All (λ j. j .bound ≤ 64) (asJobs n list)

@@ -55,7 +55,7 @@ fn put(plan: &mut [u16], at: usize, machines: u32)
 }
 
 // The machines of slot t written into the rows of the first n shares.
-pub fn write_slot(table: Table, n: usize, t: u32, plan: &mut [u16])
+fn write_slot(table: Table, n: usize, t: u32, plan: &mut [u16])
     requires { ⌜ (n ≤ 32) × (1 ≤ t) × (t ≤ 168) × (168 * n ≤ length (now plan)) × Slim n table ⌝ }
     ensures { λ _. ⌜ now (plan .exit) ≡ columnOf t 0 (sharesOf n table) (now (plan .entry)) ⌝ }
 {
@@ -68,7 +68,7 @@ pub fn write_slot(table: Table, n: usize, t: u32, plan: &mut [u16])
 }
 
 // The plan of the first n jobs, written into the lent buffer.
-pub fn write_plan(list: Jobs, n: usize, machines: u32, plan: &mut [u16])
+fn write_plan(list: Jobs, n: usize, machines: u32, plan: &mut [u16])
     requires { ⌜ (n ≤ 32) × (168 * n ≤ length (now plan)) × Plannable n list ⌝ }
     ensures { λ _. ⌜ now (plan .exit) ≡ written (planRows machines (asJobs n list)) n (now (plan .entry)) ⌝ }
 {
@@ -82,7 +82,7 @@ pub fn write_plan(list: Jobs, n: usize, machines: u32, plan: &mut [u16])
 }
 
 // A 7 if the walk came to a short boundary.
-pub fn fit_answer(fit: Fit) -> Answer
+fn fit_answer(fit: Fit) -> Answer
     ensures { λ r. ⌜ r ≡ fitAnswer (asShort fit) ⌝ }
 {
     match fit {

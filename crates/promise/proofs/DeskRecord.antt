@@ -12,7 +12,7 @@ use Rattle.promise.specs.declared.Desk.{Desk}
 use Rattle.promise.specs.Desk.{unused}
 use Rattle.promise.specs.Claims.{fourFrom}
 use Rattle.promise.specs.Window.{wordAt, wordsFrom, sent}
-use Rattle.promise.specs.DeskClaims.{Seated}
+use Rattle.promise.specs.DeskClaims.{Has32Seats}
 use Rattle.promise.specs.DeskWindow.{seatNumbers, deskNumbers, deskBytes, seatAt, seatsFrom, deskRead}
 use Rattle.promise.specs.DeskWindowClaims.{RecordsAreReadBack, RecordsAreLaidOut, RecordsAreWrittenBack}
 use Rattle.promise.proofs.Words.{sent-length, word-on, words-on, first-word, bytes-sent}
@@ -76,7 +76,7 @@ module _ (machines clock : ℕ) (seats : List Held) where
   seats-read i (suc n) e =
       ap₂ _∷_ (seat-read i (omega arith)) (seats-read (suc i) n (omega arith)) ∙ sym (drop-cons seats i unused (omega arith))
 
-desk-read : (desk : Desk) → Seated desk → deskRead (deskBytes desk) ≡ desk
+desk-read : (desk : Desk) → Has32Seats desk → deskRead (deskBytes desk) ≡ desk
 unfolding deskRead deskBytes deskNumbers written
 desk-read desk e = λ t. record {
   machines = word-sent (deskNumbers desk) 0 t;
@@ -88,7 +88,7 @@ desk-read desk e = λ t. record {
     drop-zero [] = refl
     drop-zero (h ∷ hs) = refl
 
-pub record-length : (desk : Desk) → Seated desk → length (deskBytes desk) ≡ 776
+pub record-length : (desk : Desk) → Has32Seats desk → length (deskBytes desk) ≡ 776
 unfolding deskBytes deskNumbers
 record-length desk e = omega (arith, sent-length (deskNumbers desk), each-length seatNumbers 6 (λ h. refl) (desk .seats))
 
@@ -173,7 +173,7 @@ seats-count : (bytes : List ℕ) (i n : ℕ) → length (seatsFrom bytes i n) �
 seats-count bytes i zero = refl
 seats-count bytes i (suc n) = ap suc (seats-count bytes (suc i) n)
 
-pub from-seated : (bytes : List ℕ) → Seated (deskRead bytes)
+pub from-seated : (bytes : List ℕ) → Has32Seats (deskRead bytes)
 unfolding deskRead
 from-seated bytes = seats-count bytes 0 32
 

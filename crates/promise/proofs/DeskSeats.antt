@@ -17,7 +17,7 @@ use Rattle.promise.specs.declared.Held.{Held}
 use Rattle.promise.specs.declared.Desk.{Desk}
 use Rattle.promise.specs.Desk.{unused, inUse, heldOf, table, deskOf, asPlanned, toPlan, jobsFor, SoundSeat, Sound}
 use Rattle.promise.specs.DeskCalls.{without as leaves, seated, lowered, afterRun}
-use Rattle.promise.specs.DeskClaims.{Seated}
+use Rattle.promise.specs.DeskClaims.{Has32Seats}
 
 -- the numbers of the seats
 abbrev pub numbered : List Held → List ℕ
@@ -59,7 +59,7 @@ pub held-again : (machines clock : ℕ) (held : List Held) → All (λ h. 1 ≤ 
 unfolding heldOf deskOf table
 held-again machines clock held p = used-again (32 - length held) held p
 
-pub sound-seated : (desk : Desk) → Sound desk → Seated desk
+pub sound-seated : (desk : Desk) → Sound desk → Has32Seats desk
 sound-seated desk s = ap (λ (hs : List Held). length hs) (s .zeros) ∙ length-table (heldOf desk) (s .few)
 
 -- a desk made of good parts is sound

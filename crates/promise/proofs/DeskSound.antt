@@ -19,7 +19,7 @@ use Rattle.promise.specs.declared.Held.{Held}
 use Rattle.promise.specs.declared.Desk.{Desk}
 use Rattle.promise.specs.Desk.{unused, inUse, heldOf, table, jobsFor, SoundSeat, Sound}
 use Rattle.promise.specs.DeskCalls.{seatOk, seatFits, isUnused, allUnused, seatsOk, noneShort, isSound}
-use Rattle.promise.specs.DeskClaims.{Seated, SoundIsTested}
+use Rattle.promise.specs.DeskClaims.{Has32Seats, SoundIsTested}
 use Rattle.promise.proofs.Ladder.{Tells, holds, fails, tells-lt, tells-eq, tells-same}
 
 pub tells-le : (a b : ℕ) → Tells (a ≤ b) (leb a b)
@@ -132,7 +132,7 @@ tells-room machines jobs = go (leastShort machines jobs) refl
     go none e = holds (none-short-is-named machines jobs .0 e)
     go (some s) e = fails (λ r. Option·some-ne-none s (sym e ∙ none-short-is-named machines jobs .1 r))
 
-module _ (desk : Desk) (seated : Seated desk) where
+module _ (desk : Desk) (seated : Has32Seats desk) where
   -- what isSound tests, in its order
   abbrev Tested : Type 0
   Tested =

@@ -19,7 +19,7 @@ use Rattle.promise.specs.Answers.{refusal, fault, first}
 use Rattle.promise.specs.Rows.{Field, the-number, the-work, the-deadline, the-bound, fieldOf, least, greatest, fieldFault, fieldsFault}
 use Rattle.promise.specs.Desk.{heldOf, Sound}
 use Rattle.promise.specs.DeskCalls.{soundFault, isHeld, admitDues, deskFit, jobsWith, admitAnswer, findAnswer, runAnswer, DeskTest, not-sound, asked, held-already, full, no-fit, not-held, at-the-end, DeskHolds, deskAnswerOf, admitOrder, findOrder, runOrder}
-use Rattle.promise.specs.DeskClaims.{Seated, DeskAnswersByTheTable}
+use Rattle.promise.specs.DeskClaims.{Has32Seats, DeskAnswersByTheTable}
 use Rattle.promise.proofs.Ladder.{Tells, holds, fails, tells-lt, tells-eq, tells-or, tells-not, tells-same, Ladder, one, append, none-holds, zero-none, given}
 use Rattle.promise.proofs.DeskSound.{tells-le, tells-room, tells-sound}
 
@@ -88,7 +88,7 @@ module _ (desk : Desk) (j : Job) where
       go none e = inr ((λ h. h (all-room .0 e)), refl)
       go (some s) e = inl ((λ h. Option·some-ne-none s (sym e ∙ all-room .1 h)), rw e)
 
-  module _ (seated : Seated desk) where
+  module _ (seated : Has32Seats desk) where
     pub gives-sound : DeskGives (not-sound ∷ []) (soundFault desk)
     unfolding soundFault
     gives-sound = test not-sound (tells-not (tells-sound desk seated))
@@ -148,7 +148,7 @@ pub really : {P : Type 0} {t : Bool} → Tells P t → ¬ ¬ P → P
 really (holds h) n = h
 really (fails h) n = absurd (n h)
 
-pub admit-yes : (desk : Desk) (j : Job) → Seated desk → (admitAnswer desk j) .number ≡ 0 → Admissible desk j
+pub admit-yes : (desk : Desk) (j : Job) → Has32Seats desk → (admitAnswer desk j) .number ≡ 0 → Admissible desk j
 admit-yes desk j s e = record {
   fields = each;
   new = passes .1 .1 .1 .1 .1 .0;
@@ -166,7 +166,7 @@ admit-yes desk j s e = record {
     each the-bound = passes .1 .1 .1 .1 .0
 
 -- a yes of Run: the clock is not at its end; of the job that Admit is asked for nothing is said
-pub run-yes : (desk : Desk) → Seated desk → (runAnswer desk) .number ≡ 0 → desk .clock ≢ 100000
+pub run-yes : (desk : Desk) → Has32Seats desk → (runAnswer desk) .number ≡ 0 → desk .clock ≢ 100000
 run-yes desk s e =
     let j : Job = record { number = 0; work = 0; deadline = 0; bound = 0 } in
     zero-none (DeskHolds desk j) (deskAnswerOf desk j) (desk-refuses desk j) runOrder (runAnswer desk) e (gives-run desk j s) .1 .0

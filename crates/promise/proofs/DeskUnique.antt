@@ -14,7 +14,7 @@ use Rattle.promise.specs.declared.Given.{Given}
 use Rattle.promise.specs.Answers.{first}
 use Rattle.promise.specs.Desk.{heldOf, column, Sound}
 use Rattle.promise.specs.DeskCalls.{isSound, soundFault, admitAnswer, admitOf, findAnswer, withdrawOf, lookOf, runAnswer, runOf, pairs, givenOf}
-use Rattle.promise.specs.DeskClaims.{Seated, WholeOutcome, DeskCallsLeaveOne}
+use Rattle.promise.specs.DeskClaims.{Has32Seats, WholeOutcome, DeskCallsLeaveOne}
 use Rattle.promise.proofs.DeskSound.{sound-is-tested}
 use Rattle.promise.proofs.DeskSeats.{sound-seated}
 use Rattle.promise.proofs.DeskKept.{soundness-is-kept, refusal-hands-the-desk-back}
@@ -31,7 +31,7 @@ pairs-whole given l =
       length-replicate {A = Given} (32 - length given) (record { number = 0; machines = 0 }),
     )
 
-module _ (desk : Desk) (seated : Seated desk) where
+module _ (desk : Desk) (seated : Has32Seats desk) where
   whole-sound : Sound desk → WholeOutcome desk
   unfolding runOf givenOf lookOf
   whole-sound s =

@@ -1,5 +1,5 @@
 -- The desk at the host window: what its buffers hold after a call, and the record handed on from call to call.
-use Prim.Native.Nat.{ℕ, _+_, _*_, _≤_, _<_}
+use Prim.Native.Nat.{ℕ, suc, _+_, _*_, _≤_, _<_}
 use native.Mathlib.Omega.{arith}
 use mathlib.Core.Path.{_≡_, refl, sym, _∙_, ap, subst}
 use mathlib.Core.Logic.{_≢_}
@@ -17,8 +17,9 @@ use Rattle.promise.specs.Answers.{refusal, fault, first}
 use Rattle.promise.specs.DeskCalls.{soundFault, openOf, findAnswer, lookOf, runAnswer, runOf}
 use Rattle.promise.specs.History as History
 use Rattle.promise.specs.History.{Call, admit, withdraw, look, run, deskAfter}
-use Rattle.promise.specs.DeskClaims.{Seated, WholeOutcome}
+use Rattle.promise.specs.DeskClaims.{Has32Seats, WholeOutcome}
 use Rattle.promise.specs.Window.{wordAt, sent}
+use Rattle.promise.specs.Claims.{fourFrom}
 use Rattle.promise.specs.DeskWindow.{deskBytes, deskRead, recordFault, outputFault, recordLeft, outputLeft, openBytesAnswer, recordOpened, admitBytesAnswer, recordAdmitted, withdrawBytesAnswer, recordWithdrawn, lookNumbers, lookBytesAnswer, figuresTold, pairNumbers, runBytesAnswer, recordRun, pairsTold, recordAfter}
 use Rattle.promise.specs.DeskWindowClaims.{LeftAsLent, LengthsStay, DeskWindowRefusalLeavesTheBytes, DeskHandedOn, DeskWindowHandsTheDeskOn, GoesOn, HistoryGoesThroughTheWindow, FiguresInPlace, PairsInPlace, DeskWindowTellsInPlace}
 use Rattle.promise.proofs.Ladder.{same-number, first-zero, first-zero-front, first-first}
@@ -54,7 +55,7 @@ left-as-lent machines bytes j n lent = record {
 }
 
 -- a yes that writes a whole desk over a whole record, and no more numbers than an output buffer has room for
-record-same : (a : Answer) (new : Desk) (bytes : List ℕ) → Seated new → (a .number ≡ 0 → length bytes ≡ 776) → length (recordLeft a new bytes) ≡ length bytes
+record-same : (a : Answer) (new : Desk) (bytes : List ℕ) → Has32Seats new → (a .number ≡ 0 → length bytes ≡ 776) → length (recordLeft a new bytes) ≡ length bytes
 record-same a new bytes s f = go (eqb (a .number) 0) refl
   where
     go : (t : Bool) → eqb (a .number) 0 ≡ t → length (cond t (deskBytes new) bytes) ≡ length bytes
@@ -82,7 +83,7 @@ module _ (bytes : List ℕ) (lent size : ℕ) (z : (outputFault bytes lent size)
       go true e z = absurd (omega arith)
       go false e z = ltb-false lent size e
 
-opened-whole : (machines : ℕ) → Seated ((openOf machines) .desk)
+opened-whole : (machines : ℕ) → Has32Seats ((openOf machines) .desk)
 opened-whole machines = sound-seated _ (soundness-is-kept .0 machines)
 
 -- what a call on a record returns is whole
@@ -95,7 +96,7 @@ module _ (bytes : List ℕ) where
 
 -- ---- the desk, handed on
 
-record-read : (a : Answer) (new : Desk) (bytes : List ℕ) → Seated new → (a .number ≢ 0 → new ≡ deskRead bytes) → deskRead (recordLeft a new bytes) ≡ new
+record-read : (a : Answer) (new : Desk) (bytes : List ℕ) → Has32Seats new → (a .number ≢ 0 → new ≡ deskRead bytes) → deskRead (recordLeft a new bytes) ≡ new
 record-read a new bytes s f = go (eqb (a .number) 0) refl
   where
     go : (t : Bool) → eqb (a .number) 0 ≡ t → deskRead (cond t (deskBytes new) bytes) ≡ new
@@ -169,29 +170,29 @@ desk-window-refusal-leaves-the-bytes machines bytes j n lent = (left-as-lent mac
 
 -- ---- each call on the record that the last one left
 
-history-goes-on : (given bytes : List ℕ) (calls : List Call) → 256 ≤ length given → length bytes ≡ 776
-    → (length (recordAfter given bytes calls) ≡ 776) × (deskRead (recordAfter given bytes calls) ≡ History.deskFrom (deskRead bytes) calls)
-history-goes-on given bytes [] l e = (e, refl)
-history-goes-on given bytes (admit j ∷ calls) l e =
-    let h = history-goes-on given (recordAdmitted bytes j) calls l (lengths-stay bytes j 0 given 1 .admit ∙ e) in
+history-goes-on : (lent : ℕ → List ℕ) (bytes : List ℕ) (calls : List Call) → ((k : ℕ) → 256 ≤ length (lent k)) → length bytes ≡ 776
+    → (length (recordAfter lent bytes calls) ≡ 776) × (deskRead (recordAfter lent bytes calls) ≡ History.deskFrom (deskRead bytes) calls)
+history-goes-on lent bytes [] l e = (e, refl)
+history-goes-on lent bytes (admit j ∷ calls) l e =
+    let h = history-goes-on (λ k. lent (suc k)) (recordAdmitted bytes j) calls (λ k. l (suc k)) (lengths-stay bytes j 0 [] 1 .admit ∙ e) in
     (h .0, h .1 ∙ ap (λ (d : Desk). History.deskFrom d calls) (desk-handed-on bytes e .admit j))
-history-goes-on given bytes (withdraw n ∷ calls) l e =
-    let h = history-goes-on given (recordWithdrawn bytes n) calls l (lengths-stay bytes no-job n given 1 .withdraw ∙ e) in
+history-goes-on lent bytes (withdraw n ∷ calls) l e =
+    let h = history-goes-on (λ k. lent (suc k)) (recordWithdrawn bytes n) calls (λ k. l (suc k)) (lengths-stay bytes no-job n [] 1 .withdraw ∙ e) in
     (h .0, h .1 ∙ ap (λ (d : Desk). History.deskFrom d calls) (desk-handed-on bytes e .withdraw n))
-history-goes-on given bytes (look n ∷ calls) l e =
-    let h = history-goes-on given bytes calls l e in
+history-goes-on lent bytes (look n ∷ calls) l e =
+    let h = history-goes-on (λ k. lent (suc k)) bytes calls (λ k. l (suc k)) e in
     (h .0, h .1 ∙ ap (λ (d : Desk). History.deskFrom d calls) (sym (refusal-hands-the-desk-back (deskRead bytes) .look n)))
-history-goes-on given bytes (run ∷ calls) l e =
-    let h = history-goes-on given (recordRun bytes given) calls l (lengths-stay bytes no-job 0 given 1 .run .0 ∙ e) in
-    (h .0, h .1 ∙ ap (λ (d : Desk). History.deskFrom d calls) (desk-handed-on bytes e .run given l))
+history-goes-on lent bytes (run ∷ calls) l e =
+    let h = history-goes-on (λ k. lent (suc k)) (recordRun bytes (lent 0)) calls (λ k. l (suc k)) (lengths-stay bytes no-job 0 (lent 0) 1 .run .0 ∙ e) in
+    (h .0, h .1 ∙ ap (λ (d : Desk). History.deskFrom d calls) (desk-handed-on bytes e .run (lent 0) (l 0)))
 
 pub history-goes-through-the-window : HistoryGoesThroughTheWindow
 unfolding deskAfter
-history-goes-through-the-window machines bytes given calls a b e l =
+history-goes-through-the-window machines bytes lent calls a b e l =
     let start = recordOpened machines bytes in
-    let h = history-goes-on given start calls l (lengths-stay bytes no-job 0 given machines .open′ ∙ e) in
-    subst (GoesOn (recordAfter given start calls)) (h .1 ∙ ap (λ (d : Desk). History.deskFrom d calls) (open-handed-on bytes e machines a b))
-    (answered-on (recordAfter given start calls) (h .0))
+    let h = history-goes-on lent start calls l (lengths-stay bytes no-job 0 [] machines .open′ ∙ e) in
+    subst (GoesOn (recordAfter lent start calls)) (h .1 ∙ ap (λ (d : Desk). History.deskFrom d calls) (open-handed-on bytes e machines a b))
+    (answered-on (recordAfter lent start calls) (h .0))
 
 -- ---- the figures and the pairs
 
@@ -203,7 +204,7 @@ module _ (a : Answer) (numbers lent : List ℕ) (z : a .number ≡ 0) where
   output-beyond k l = rw (eq-eqb (a .number) 0 z) (beyond-front (sent numbers) lent (4 * length numbers) (sent-length numbers) k l)
 
 figures-in-place : (bytes : List ℕ) (n : ℕ) (lent : List ℕ) → (lookBytesAnswer bytes n lent) .number ≡ 0 → FiguresInPlace bytes n lent
-unfolding figuresTold
+unfolding figuresTold wordAt
 figures-in-place bytes n lent z =
     let word = output-word (lookBytesAnswer bytes n lent) (looks bytes n) lent z in
     record {
@@ -214,6 +215,11 @@ figures-in-place bytes n lent z =
       beyond = output-beyond (lookBytesAnswer bytes n lent) (looks bytes n) lent z;
     }
 
+-- number i stands in the four bytes from 4 × i on
+four-word : (bytes : List ℕ) (i k : ℕ) → k ≡ 4 * i → fourFrom bytes k ≡ wordAt bytes i
+unfolding wordAt
+four-word bytes i k e = ap (fourFrom bytes) e
+
 pairs-in-place : (bytes lent : List ℕ) → (runBytesAnswer bytes lent) .number ≡ 0 → PairsInPlace bytes lent
 unfolding pairsTold
 pairs-in-place bytes lent z =
@@ -221,8 +227,8 @@ pairs-in-place bytes lent z =
     let word = output-word (runBytesAnswer bytes lent) (pairing bytes) lent z in
     let at = each-at pairNumbers 2 (λ g. refl) given in
     record {
-      number = λ i none l. word (2 * i) (omega (arith, pair-numbers bytes)) ∙ ap (λ (m : ℕ). getD (pairing bytes) m 0) (omega arith) ∙ at i 0 none (omega (arith, whole bytes .pairs)) (omega arith);
-      machines = λ i none l. word (2 * i + 1) (omega (arith, pair-numbers bytes)) ∙ at i 1 none (omega (arith, whole bytes .pairs)) (omega arith);
+      number = λ i none l. four-word _ (2 * i) (8 * i) (omega arith) ∙ word (2 * i) (omega (arith, pair-numbers bytes)) ∙ ap (λ (m : ℕ). getD (pairing bytes) m 0) (omega arith) ∙ at i 0 none (omega (arith, whole bytes .pairs)) (omega arith);
+      machines = λ i none l. four-word _ (2 * i + 1) (8 * i + 4) (omega arith) ∙ word (2 * i + 1) (omega (arith, pair-numbers bytes)) ∙ at i 1 none (omega (arith, whole bytes .pairs)) (omega arith);
       beyond = λ k l. output-beyond (runBytesAnswer bytes lent) (pairing bytes) lent z k (omega (arith, pair-numbers bytes));
     }
 

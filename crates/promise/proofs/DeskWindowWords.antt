@@ -16,7 +16,7 @@ use Rattle.promise.specs.declared.Desk.{Desk}
 use Rattle.promise.specs.Desk.{heldOf, Sound}
 use Rattle.promise.specs.Rows.{Field, the-number, the-work, the-deadline, the-bound, fieldsFault}
 use Rattle.promise.specs.DeskCalls.{jobsWith, isSound, soundFault, isHeld, admitDues, deskFit, openOf, admitAnswer, admitOf, findAnswer, withdrawOf, lookOf, runAnswer, runOf, DeskTest, asked, DeskHolds, deskAnswerOf}
-use Rattle.promise.specs.DeskClaims.{Seated}
+use Rattle.promise.specs.DeskClaims.{Has32Seats}
 use Rattle.promise.specs.Window.{pack, Packs}
 use Rattle.promise.specs.DeskWindow.{deskRead, recordFault, outputFault, openBytesAnswer, admitBytesAnswer, withdrawBytesAnswer, withdrawPacked, lookBytesAnswer, runBytesAnswer}
 use Rattle.promise.specs.DeskWindowClaims.{DeskWindowPacks}
@@ -28,7 +28,7 @@ use Rattle.promise.proofs.DeskRecord.{from-seated}
 use Rattle.promise.proofs.DeskWindowing.{clear-sound}
 
 -- what Admit says packs: its place is at most 168 past the clock
-module _ (desk : Desk) (seated : Seated desk) where
+module _ (desk : Desk) (seated : Has32Seats desk) where
   twelve-packs : Packs (soundFault desk)
   unfolding soundFault
   twelve-packs = small-packs (whole-small (not (isSound desk)) 12 (omega arith))

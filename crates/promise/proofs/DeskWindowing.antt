@@ -16,7 +16,7 @@ use Rattle.promise.specs.Answers.{refusal, fault}
 use Rattle.promise.specs.Desk.{Sound}
 use Rattle.promise.specs.DeskCalls.{soundFault, openOf, admitAnswer, admitOf, findAnswer, withdrawOf, lookOf, runAnswer, runOf, DeskTest, not-sound, not-held, at-the-end, HeldAs, DeskHolds, deskAnswerOf, findOrder, runOrder}
 use Rattle.promise.specs.Order.{FirstOf, GivenBy}
-use Rattle.promise.specs.DeskClaims.{Seated}
+use Rattle.promise.specs.DeskClaims.{Has32Seats}
 use Rattle.promise.specs.DeskWindow.{deskRead, recordFault, outputFault, openBytesAnswer, admitBytesAnswer, withdrawBytesAnswer, lookBytesAnswer, runBytesAnswer}
 use Rattle.promise.specs.DeskWindowClaims.{OpenedInOrder, TwelveFirst, AnsweredInOrder, DeskWindowAnswersByTheTable, DeskWindowPromisesLeaveOne}
 use Rattle.promise.proofs.Ladder.{same-number, first-zero}
@@ -30,7 +30,7 @@ pub no-job : Job
 no-job = record { number = 0; work = 0; deadline = 0; bound = 0 }
 
 -- 12 exactly if a desk is not sound
-module _ (desk : Desk) (seated : Seated desk) where
+module _ (desk : Desk) (seated : Has32Seats desk) where
   sound-or-not : ((¬ Sound desk) × (soundFault desk ≡ refusal 12 0 0)) ⊎ ((¬ ¬ Sound desk) × (soundFault desk ≡ Answers.yes))
   sound-or-not = gives-sound desk no-job seated
 
@@ -153,6 +153,6 @@ desk-window-promises-leave-one bytes lent word word′ b b′ a a′ = record {
   open′ = λ machines p q. (p .answered ∙ sym (q .answered), p .left ∙ sym (q .left));
   admit = λ j p q. (p .answered ∙ sym (q .answered), p .left ∙ sym (q .left));
   withdraw = λ n p q. (p .answered ∙ sym (q .answered), p .left ∙ sym (q .left));
-  look = λ n p q. (p .answered ∙ sym (q .answered), p .kept ∙ sym (q .kept), p .left ∙ sym (q .left));
+  look = λ n p q. (p .answered ∙ sym (q .answered), p .left ∙ sym (q .left), p .told ∙ sym (q .told));
   run = λ p q. (p .answered ∙ sym (q .answered), p .left ∙ sym (q .left), p .told ∙ sym (q .told));
 }

@@ -12,8 +12,8 @@ use lib.ListN.{length, getD}
 use lib.Arith.{digits-lt, digits-div, mod-mul}
 use borrow.Author.Tests.{lt-ltb, le-ltb}
 use Rattle.model.specs.Lists.{All}
-use Rattle.promise.proofs.TextTests.{within-all, number-told, told-number}
-use Rattle.promise.specs.Texts.{digitsFrom, decimal, NumberText, allWithin, isNumber, valueFrom, readNumber}
+use Rattle.promise.proofs.TextTests.{number-told, told-number}
+use Rattle.promise.specs.Texts.{digitsFrom, decimal, NumberText, isNumber, valueFrom, readNumber}
 use Rattle.promise.specs.TextClaims.{NumbersAreReadBack, NumbersArePrintedBack}
 
 -- a byte that is a digit
@@ -159,9 +159,6 @@ decimal-at-most n k o l = go (decLt (decimal-shape n .last) k)
 
 pub decimal-short : (n : ℕ) → (n < 100 → length (decimal n) ≤ 2) × (n < 1000 → length (decimal n) ≤ 3)
 decimal-short n = ((λ l. decimal-at-most n 2 (omega arith) l), λ l. decimal-at-most n 3 (omega arith) l)
-
-pub value-lt : (bytes : List ℕ) → allWithin 48 57 bytes ≡ true → valueFrom 0 bytes < 10 ^ length bytes
-value-lt bytes e = value-below bytes (within-all 48 57 bytes e)
 
 -- the printed digits of a number that has k + 1 of them
 decimal-full : (k n : ℕ) → k ≤ 6 → (1 ≤ k → 10 ^ k ≤ n) → n < 10 ^ suc k → decimal n ≡ full k n

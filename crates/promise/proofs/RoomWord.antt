@@ -1,20 +1,22 @@
 -- P4: the room, read back from the word.
-use Prim.Native.Nat.{ℕ, suc, _*_, _-_, _/_, _≤_, _<_}
+use Prim.Native.Nat.{ℕ, suc, _*_, _-_, _/_, _%_, _≤_, _<_}
 use native.Mathlib.Nat.{mul-le-mul, mul-mod-right}
 use native.Mathlib.Decide.{decLt}
 use native.Mathlib.Omega.{arith}
 use mathlib.Core.Path.{_≡_}
+use mathlib.Core.Logic.{_≢_}
 use mathlib.Core.Bool.{cond}
 use mathlib.Core.List.{List, [], _∷_, _++_}
 use lib.Dec.{ltb}
 use lib.IntN.{ℤ, pos, negsuc, negℤ}
 use lib.Signed.{mag}
-use borrow.Author.Tests.{lt-ltb, le-ltb, eq-eqb}
+use borrow.Author.Tests.{lt-ltb, le-ltb, eq-eqb, ne-eqb}
 use Rattle.model.specs.Jobs.{Job, forced, room}
 use Rattle.model.proofs.Signed.{room-enough, room-short}
+use Rattle.promise.specs.Answers as Answers
 use Rattle.promise.specs.Rows.{boundary, listOrder}
 use Rattle.promise.specs.Lists.{planned, Holds, answerOf, roomOrder, roomAnswer, roomFigure}
-use Rattle.promise.specs.Window.{wordsOf, bytesFault, roomWord, roomWindowAnswer, roomPacked}
+use Rattle.promise.specs.Window.{wordsOf, bytesFault, pack, roomWord, roomWindowAnswer, roomPacked}
 use Rattle.promise.specs.Claims.{RoomIsReadBack}
 use Rattle.promise.proofs.Ladder.{same-number, All-front, All-back, zero-none, first-zero}
 use Rattle.promise.proofs.Table.{refuses, gives-room}
@@ -62,9 +64,14 @@ module _ (machines : ℕ) (rows : List ℕ) (b : ℕ) (z : (roomAnswer machines 
   unfolding roomFigure
   figure-small = rw (eq-eqb ((roomAnswer machines rows b) .number) 0 z) room-small
 
-pub room-is-read-back : RoomIsReadBack
+abbrev ReadOff : ℕ → List ℕ → ℕ → Type 0
+ReadOff machines list b =
+    (roomPacked machines list b % 4294967296 ≡ 0)
+    × (roomFigure machines (wordsOf list) b ≡ readBack (roomPacked machines list b / 4294967296))
+
+room-packed : (machines : ℕ) (list : List ℕ) (b : ℕ) → roomWindowAnswer machines list b ≡ Answers.yes → ReadOff machines list b
 unfolding roomWindowAnswer roomPacked
-room-is-read-back machines list b e =
+room-packed machines list b e =
     (rw packed (mul-mod-right 4294967296 word), rw (packed, upper) (read-back figure (figure-small machines (wordsOf list) b is-zero)))
   where
     figure : ℤ
@@ -81,3 +88,11 @@ room-is-read-back machines list b e =
 
     upper : 4294967296 * word / 4294967296 ≡ word
     upper = omega arith
+
+refusal-packed : (machines : ℕ) (list : List ℕ) (b : ℕ) → (roomWindowAnswer machines list b) .number ≢ 0
+    → roomPacked machines list b ≡ pack (roomWindowAnswer machines list b)
+unfolding roomPacked
+refusal-packed machines list b h = rw (ne-eqb ((roomWindowAnswer machines list b) .number) 0 h)
+
+pub room-is-read-back : RoomIsReadBack
+room-is-read-back machines list b = (room-packed machines list b, refusal-packed machines list b)

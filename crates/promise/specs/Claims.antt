@@ -20,7 +20,7 @@ use Rattle.promise.specs.Rows.{rowAt, rowCount, jobsOf, machine-count, p
 use Rattle.promise.specs.Window.{wordsOf, sent, windowAnswer, windowBuffer, pack, Packs, roomWindowAnswer, roomPacked, PlanBytesPromise, PlanNumbersPromise, RoomBytesPromise}
 use Rattle.promise.specs.Lists.{planned, Holds, answerOf, planOrder, planAnswer, planBuffer, PlanPromise, roomOrder, roomAnswer, roomFigure, RoomPromise}
 
--- P1: on a yes the buffer holds the plan by job number, row by row and slot by slot, and what was lent beyond
+-- L1: on a yes the buffer holds the plan by job number, row by row and slot by slot, and what was lent beyond
 pub record Planned (machines : ℕ) (rows lent : List ℕ) : Type 0 where
   pub cells : (i t : ℕ) → i < rowCount rows → 1 ≤ t → t ≤ 168
       → getD (planBuffer machines rows lent) (168 * i + t - 1) 0 ≡ plan machines (planned machines rows) ((rowAt rows i) .number) t
@@ -29,13 +29,13 @@ pub record Planned (machines : ℕ) (rows lent : List ℕ) : Type 0 where
 abbrev pub YesWritesThePlan : Type 0
 YesWritesThePlan = (machines : ℕ) (rows lent : List ℕ) → (planAnswer machines rows (length lent)) .number ≡ 0 → Planned machines rows lent
 
--- P1: a refusal leaves the buffer as it was lent, and its length never changes
+-- L1: a refusal leaves the buffer as it was lent, and its length never changes
 abbrev pub RefusalWritesNothing : Type 0
 RefusalWritesNothing =
     (machines : ℕ) (rows lent : List ℕ)
     → ((planAnswer machines rows (length lent)) .number ≢ 0 → planBuffer machines rows lent ≡ lent) × (length (planBuffer machines rows lent) ≡ length lent)
 
--- P2: each number of Plan and of Room exactly when its row holds and no earlier one in the order does
+-- L2: each number of Plan and of Room exactly when its row holds and no earlier one in the order does
 abbrev pub PlanAnswersByTheTable : Type 0
 PlanAnswersByTheTable =
     (machines : ℕ) (rows : List ℕ) (size : ℕ)
@@ -46,7 +46,7 @@ RoomAnswersByTheTable =
     (machines : ℕ) (rows : List ℕ) (b : ℕ)
     → GivenBy (Holds machines rows) (answerOf machines rows) (roomOrder rows b) (roomAnswer machines rows b)
 
--- P3: where none of 1 to 6 holds, Plan answers 7 exactly if no schedule at all is valid for the list as it was sent;
+-- L3: where none of 1 to 6 holds, Plan answers 7 exactly if no schedule at all is valid for the list as it was sent;
 -- its place is then the least short boundary and its amount the shortage there, above 0
 pub record SevenIsTrue (machines : ℕ) (rows : List ℕ) (a : Answer) : Type 0 where
   pub exactly : (a .number ≡ 7) ↔ (¬ Possible machines (jobsOf rows))
@@ -89,42 +89,45 @@ abbrev pub RoomPromiseLeavesOne : Type 0
 RoomPromiseLeavesOne =
     (machines : ℕ) (rows : List ℕ) (b : ℕ) (r r′ : RoomAnswer) → RoomPromise machines rows b r → RoomPromise machines rows b r′ → r ≡ r′
 
--- P4: every answer of Plan and of Room, at the window too, packs without loss
+-- L4: every answer of Plan and of Room, at the window too, packs without loss
 abbrev pub AnswersPack : Type 0
 AnswersPack =
     (machines : ℕ) (rows : List ℕ) (size : ℕ)
     → Packs (planAnswer machines rows size) × Packs (roomAnswer machines rows size) × Packs (windowAnswer machines rows size) × Packs (roomWindowAnswer machines rows size)
 
--- P4: no two such answers pack to the same word
+-- L4: no two such answers pack to the same word
 abbrev pub PackingIsOneToOne : Type 0
 PackingIsOneToOne = (a b : Answer) → Packs a → Packs b → pack a ≡ pack b → a ≡ b
 
--- P4: the room is read back from the upper half of the word: below 2^31 it is that number, else 2^32 less the shortage
+-- L4: the room is read back from the upper half of the word: below 2^31 it is that number, else 2^32 less the shortage;
+-- a refusal is packed
 abbrev pub RoomIsReadBack : Type 0
 RoomIsReadBack =
-    (machines : ℕ) (list : List ℕ) (b : ℕ) → roomWindowAnswer machines list b ≡ yes
+    (machines : ℕ) (list : List ℕ) (b : ℕ)
+    → (roomWindowAnswer machines list b ≡ yes
     → (roomPacked machines list b % 4294967296 ≡ 0)
-    × (roomFigure machines (wordsOf list) b ≡ cond (ltb (roomPacked machines list b / 4294967296) 2147483648) (pos (roomPacked machines list b / 4294967296)) (negℤ (pos (4294967296 - roomPacked machines list b / 4294967296))))
+    × (roomFigure machines (wordsOf list) b ≡ cond (ltb (roomPacked machines list b / 4294967296) 2147483648) (pos (roomPacked machines list b / 4294967296)) (negℤ (pos (4294967296 - roomPacked machines list b / 4294967296)))))
+    × ((roomWindowAnswer machines list b) .number ≢ 0 → roomPacked machines list b ≡ pack (roomWindowAnswer machines list b))
 
--- P4: the numbers that were sent are those that the window reads, and 32-bit numbers are sent as bytes
+-- L4: the numbers that were sent are those that the window reads, and 32-bit numbers are sent as bytes
 abbrev pub WindowReadsTheNumbers : Type 0
 WindowReadsTheNumbers = (ns : List ℕ) → (wordsOf (sent ns) ≡ ns) × (All (λ n. n < 4294967296) ns → All (λ b. b < 256) (sent ns))
 
--- P4: "lowest byte first": the number of the four bytes from index k on, lowest first
+-- L4: "lowest byte first": the number of the four bytes from index k on, lowest first
 abbrev pub fourFrom : List ℕ → ℕ → ℕ
 fourFrom bytes k = getD bytes k 0 + 256 * getD bytes (k + 1) 0 + 65536 * getD bytes (k + 2) 0 + 16777216 * getD bytes (k + 3) 0
 
 abbrev pub WindowReadsLowestFirst : Type 0
 WindowReadsLowestFirst = (bytes : List ℕ) (i : ℕ) → i < length bytes / 4 → getD (wordsOf bytes) i 0 ≡ fourFrom bytes (4 * i)
 
--- P4: 1 first, then 2 for a length that is not a multiple of 16, then the answer of the numbers
+-- L4: 1 first, then 2 for a length that is not a multiple of 16, then the answer of the numbers
 abbrev pub WindowTakesSixteenARow : Type 0
 WindowTakesSixteenARow =
     (machines : ℕ) (list : List ℕ) (size : ℕ) → ¬ Holds machines (wordsOf list) machine-count
     → (length list % 16 ≢ 0 → (windowAnswer machines list size ≡ refusal 2 0 0) × (roomWindowAnswer machines list size ≡ refusal 2 0 0))
     × (length list % 16 ≡ 0 → (windowAnswer machines list size ≡ planAnswer machines (wordsOf list) (size / 2)) × (roomWindowAnswer machines list size ≡ roomAnswer machines (wordsOf list) size))
 
--- P4: "16 a row", "fewer than 336 × n bytes is a 6"
+-- L4: 16 bytes a row; "fewer than 336 × n bytes is a 6"
 abbrev pub WindowCountsBytes : Type 0
 WindowCountsBytes =
     (machines : ℕ) (list : List ℕ) (size : ℕ)
@@ -136,7 +139,7 @@ WindowCountsMachinesFirst =
     (machines : ℕ) (list : List ℕ) (size : ℕ) → Holds machines (wordsOf list) machine-count
     → (windowAnswer machines list size ≡ refusal 1 0 0) × (roomWindowAnswer machines list size ≡ refusal 1 0 0)
 
--- P4: on a yes the bytes at 2 × (168 × i + t − 1) are the machines of row i in slot t, lowest first, and what was lent beyond;
+-- L4: on a yes the bytes at 2 × (168 × i + t − 1) are the machines of row i in slot t, lowest first, and what was lent beyond;
 -- a refusal leaves the bytes, and their length never changes
 pub record BytesPlanned (machines : ℕ) (list lent : List ℕ) : Type 0 where
   pub low : (i t : ℕ) → i < rowCount (wordsOf list) → 1 ≤ t → t ≤ 168

@@ -3,7 +3,6 @@ use Prim.Native.Nat.{ℕ, _*_, _-_, _/_, _≤_}
 use mathlib.Core.Path.{_≡_}
 use mathlib.Core.Bool.{cond}
 use mathlib.Core.List.{List, [], _∷_, _++_, map}
-use mathlib.Core.Option.{some}
 use lib.Dec.{eqb}
 use lib.ListN.{length, replicate}
 use Rattle.model.specs.Lists.{All, Rising}

@@ -24,17 +24,17 @@ use Rattle.promise.specs.DeskCalls.{isSound, openOf, withNew, jobsWith, 
 use Rattle.promise.specs.History.{Call, eventAnswer, historyOf, deskAfter, roomOpened, Promised, Owed, answeredFor, ledgerAfter, toFinish}
 
 -- a record has 32 seats
-abbrev pub Seated : Desk → Type 0
-Seated desk = length (desk .seats) ≡ 32
+abbrev pub Has32Seats : Desk → Type 0
+Has32Seats desk = length (desk .seats) ≡ 32
 
 -- S1: the test agrees with soundness on every record
 abbrev pub SoundIsTested : Type 0
-SoundIsTested = (desk : Desk) → Seated desk → (isSound desk ≡ true) ↔ Sound desk
+SoundIsTested = (desk : Desk) → Has32Seats desk → (isSound desk ≡ true) ↔ Sound desk
 
 -- S2: each number exactly when its row holds and no earlier one in the order does
 abbrev pub DeskAnswersByTheTable : Type 0
 DeskAnswersByTheTable =
-    (desk : Desk) (j : Job) (n : ℕ) → Seated desk
+    (desk : Desk) (j : Job) (n : ℕ) → Has32Seats desk
     → GivenBy (DeskHolds desk j) (deskAnswerOf desk j) admitOrder (admitAnswer desk j)
     × GivenBy (DeskHolds desk j) (deskAnswerOf desk j) (findOrder n) (findAnswer desk n)
     × GivenBy (DeskHolds desk j) (deskAnswerOf desk j) runOrder (runAnswer desk)
@@ -134,15 +134,15 @@ pub record OneOutcome (desk : Desk) : Type 0 where
 
 -- and these are whole: a desk of 32 seats, a Run of 32 pairs
 pub record WholeOutcome (desk : Desk) : Type 0 where
-  pub admit : (j : Job) → Seated ((admitOf desk j) .desk)
-  pub withdraw : (n : ℕ) → Seated ((withdrawOf desk n) .desk)
-  pub look : (n : ℕ) → Seated ((lookOf desk n) .desk)
-  pub run : Seated ((runOf desk) .desk)
+  pub admit : (j : Job) → Has32Seats ((admitOf desk j) .desk)
+  pub withdraw : (n : ℕ) → Has32Seats ((withdrawOf desk n) .desk)
+  pub look : (n : ℕ) → Has32Seats ((lookOf desk n) .desk)
+  pub run : Has32Seats ((runOf desk) .desk)
   pub pairs : length ((runOf desk) .given) ≡ 32
 
 abbrev pub DeskCallsLeaveOne : Type 0
 DeskCallsLeaveOne = ((machines : ℕ) (r r′ : Desked) → r ≡ openOf machines → r′ ≡ openOf machines → r ≡ r′)
-    × ((desk : Desk) → Seated desk → OneOutcome desk × WholeOutcome desk)
+    × ((desk : Desk) → Has32Seats desk → OneOutcome desk × WholeOutcome desk)
 
 -- H, demand 3: the history of any calls from any Open, as its ledger has it, and any one call more
 pub record PromiseKept (machines : ℕ) (calls : List Call) : Type 0 where

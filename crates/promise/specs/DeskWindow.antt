@@ -118,8 +118,8 @@ figuresTold bytes n figures = outputLeft (lookBytesAnswer bytes n figures) (look
 
 pub record LookBytesPromise (bytes : List ℕ) (n : ℕ) (figures : List ℕ) (word : ℕ) (bytesAfter after : List ℕ) : Type 0 where
   pub answered : word ≡ pack (lookBytesAnswer bytes n figures)
-  pub left : after ≡ figuresTold bytes n figures
-  pub kept : bytesAfter ≡ bytes
+  pub left : bytesAfter ≡ bytes
+  pub told : after ≡ figuresTold bytes n figures
 
 -- Run: 12, 6, 11; "32 pairs of job number and machines", 256 bytes
 abbrev pub pairNumbers : Given → List ℕ
@@ -139,10 +139,11 @@ pub record RunBytesPromise (bytes given : List ℕ) (word : ℕ) (bytesAfter aft
   pub left : bytesAfter ≡ recordRun bytes given
   pub told : after ≡ pairsTold bytes given
 
--- a history at the window: each call gets the record that the last one left, and each Run a buffer for its pairs
-abbrev pub recordAfter : List ℕ → List ℕ → List Call → List ℕ
-recordAfter given bytes [] = bytes
-recordAfter given bytes (admit j ∷ calls) = recordAfter given (recordAdmitted bytes j) calls
-recordAfter given bytes (withdraw n ∷ calls) = recordAfter given (recordWithdrawn bytes n) calls
-recordAfter given bytes (look n ∷ calls) = recordAfter given bytes calls
-recordAfter given bytes (run ∷ calls) = recordAfter given (recordRun bytes given) calls
+-- a history at the window: each call gets the record that the last one left; `lent k` is the buffer for the pairs of the call
+-- that k calls come before, if it is a Run
+abbrev pub recordAfter : (ℕ → List ℕ) → List ℕ → List Call → List ℕ
+recordAfter lent bytes [] = bytes
+recordAfter lent bytes (admit j ∷ calls) = recordAfter (λ k. lent (suc k)) (recordAdmitted bytes j) calls
+recordAfter lent bytes (withdraw n ∷ calls) = recordAfter (λ k. lent (suc k)) (recordWithdrawn bytes n) calls
+recordAfter lent bytes (look n ∷ calls) = recordAfter (λ k. lent (suc k)) bytes calls
+recordAfter lent bytes (run ∷ calls) = recordAfter (λ k. lent (suc k)) (recordRun bytes (lent 0)) calls

@@ -13,7 +13,7 @@ use Rattle.promise.specs.Answers.{yes, refusal}
 use Rattle.promise.specs.Desk.{Sound}
 use Rattle.promise.specs.DeskCalls.{openOf, admitOf, withdrawOf, lookOf, runOf, admitAnswer, HeldAs}
 use Rattle.promise.specs.History.{Call, deskAfter}
-use Rattle.promise.specs.DeskClaims.{Seated}
+use Rattle.promise.specs.DeskClaims.{Has32Seats}
 use Rattle.promise.specs.Claims.{fourFrom}
 use Rattle.promise.specs.Window.{wordAt, pack, Packs}
 use Rattle.promise.specs.DeskWindow.{deskNumbers, deskBytes, deskRead, openBytesAnswer, recordOpened, OpenBytesPromise, admitBytesAnswer, recordAdmitted, AdmitBytesPromise, withdrawBytesAnswer, withdrawPacked, recordWithdrawn, WithdrawBytesPromise, lookBytesAnswer, figuresTold, LookBytesPromise, runBytesAnswer, recordRun, pairsTold, RunBytesPromise, recordAfter}
@@ -21,7 +21,7 @@ use Rattle.promise.specs.DeskWindow.{deskNumbers, deskBytes, deskRead, o
 -- a record of 32-bit numbers is 776 bytes, and is read as it was written
 abbrev pub RecordsAreReadBack : Type 0
 RecordsAreReadBack =
-    (desk : Desk) → Seated desk
+    (desk : Desk) → Has32Seats desk
     → (deskRead (deskBytes desk) ≡ desk) × (length (deskBytes desk) ≡ 776)
     × (All (λ n. n < 4294967296) (deskNumbers desk) → All (λ b. b < 256) (deskBytes desk))
 
@@ -36,14 +36,14 @@ pub record SeatLaidOut (bytes : List ℕ) (i : ℕ) (h : Held) : Type 0 where
 
 abbrev pub RecordsAreLaidOut : Type 0
 RecordsAreLaidOut =
-    (desk : Desk) → Seated desk
+    (desk : Desk) → Has32Seats desk
     → (fourFrom (deskBytes desk) 0 ≡ desk .machines) × (fourFrom (deskBytes desk) 4 ≡ desk .clock)
     × ((i : ℕ) (none : Held) → i < 32 → SeatLaidOut (deskBytes desk) i (getD (desk .seats) i none))
 
 -- any 776 bytes are a record of 32 seats, and are written as they were read
 abbrev pub RecordsAreWrittenBack : Type 0
 RecordsAreWrittenBack =
-    (bytes : List ℕ) → length bytes ≡ 776 → All (λ b. b < 256) bytes → (deskBytes (deskRead bytes) ≡ bytes) × Seated (deskRead bytes)
+    (bytes : List ℕ) → length bytes ≡ 776 → All (λ b. b < 256) bytes → (deskBytes (deskRead bytes) ≡ bytes) × Has32Seats (deskRead bytes)
 
 -- Open: 1, then 6 for any other length, else yes
 pub record OpenedInOrder (machines : ℕ) (bytes : List ℕ) : Type 0 where
@@ -118,20 +118,21 @@ pub record GoesOn (bytes : List ℕ) (desk : Desk) : Type 0 where
 
 abbrev pub HistoryGoesThroughTheWindow : Type 0
 HistoryGoesThroughTheWindow =
-    (machines : ℕ) (bytes given : List ℕ) (calls : List Call) → 1 ≤ machines → machines ≤ 64 → length bytes ≡ 776 → 256 ≤ length given
-    → GoesOn (recordAfter given (recordOpened machines bytes) calls) (deskAfter machines calls)
+    (machines : ℕ) (bytes : List ℕ) (lent : ℕ → List ℕ) (calls : List Call) → 1 ≤ machines → machines ≤ 64 → length bytes ≡ 776
+    → ((k : ℕ) → 256 ≤ length (lent k))
+    → GoesOn (recordAfter lent (recordOpened machines bytes) calls) (deskAfter machines calls)
 
 -- on a yes the figures and the pairs stand in their places, lowest byte first, and what was lent after them
 pub record FiguresInPlace (bytes : List ℕ) (n : ℕ) (lent : List ℕ) : Type 0 where
-  pub left : wordAt (figuresTold bytes n lent) 0 ≡ (lookOf (deskRead bytes) n) .left
-  pub deadline : wordAt (figuresTold bytes n lent) 1 ≡ (lookOf (deskRead bytes) n) .deadline
-  pub bound : wordAt (figuresTold bytes n lent) 2 ≡ (lookOf (deskRead bytes) n) .bound
-  pub leeway : wordAt (figuresTold bytes n lent) 3 ≡ (lookOf (deskRead bytes) n) .leeway
+  pub left : fourFrom (figuresTold bytes n lent) 0 ≡ (lookOf (deskRead bytes) n) .left
+  pub deadline : fourFrom (figuresTold bytes n lent) 4 ≡ (lookOf (deskRead bytes) n) .deadline
+  pub bound : fourFrom (figuresTold bytes n lent) 8 ≡ (lookOf (deskRead bytes) n) .bound
+  pub leeway : fourFrom (figuresTold bytes n lent) 12 ≡ (lookOf (deskRead bytes) n) .leeway
   pub beyond : (k : ℕ) → 16 ≤ k → getD (figuresTold bytes n lent) k 0 ≡ getD lent k 0
 
 pub record PairsInPlace (bytes lent : List ℕ) : Type 0 where
-  pub number : (i : ℕ) (none : Given) → i < 32 → wordAt (pairsTold bytes lent) (2 * i) ≡ (getD ((runOf (deskRead bytes)) .given) i none) .number
-  pub machines : (i : ℕ) (none : Given) → i < 32 → wordAt (pairsTold bytes lent) (2 * i + 1) ≡ (getD ((runOf (deskRead bytes)) .given) i none) .machines
+  pub number : (i : ℕ) (none : Given) → i < 32 → fourFrom (pairsTold bytes lent) (8 * i) ≡ (getD ((runOf (deskRead bytes)) .given) i none) .number
+  pub machines : (i : ℕ) (none : Given) → i < 32 → fourFrom (pairsTold bytes lent) (8 * i + 4) ≡ (getD ((runOf (deskRead bytes)) .given) i none) .machines
   pub beyond : (k : ℕ) → 256 ≤ k → getD (pairsTold bytes lent) k 0 ≡ getD lent k 0
 
 abbrev pub DeskWindowTellsInPlace : Type 0

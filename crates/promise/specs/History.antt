@@ -58,7 +58,7 @@ deskAfter machines calls = deskFrom ((openOf machines) .desk) calls
 unfoldable pub historyOf : ℕ → List Call → List Event
 historyOf machines calls = eventsFrom ((openOf machines) .desk) calls
 
--- "the room is Open's count (1 if refused)"
+-- the room: Open's count, or 1 if it was refused
 unfoldable pub roomOpened : ℕ → ℕ
 roomOpened machines = cond (eqb (((openOf machines) .answer) .number) 0) machines 1
 
@@ -108,7 +108,7 @@ ledgerOf es = ledgerFrom (record { clock = 0; inForce = [] }) es
 unfoldable pub ledgerAfter : ℕ → List Call → Ledger
 ledgerAfter machines calls = ledgerOf (historyOf machines calls)
 
--- those with work left, each with "its work less what the Runs have answered since and the slots left to its due slot"
+-- those with work left, each with its work less what the Runs have answered since, and the slots left to its due slot
 unfoldable pub remaining : ℕ → Promised → Job
 remaining clock p = record { number = p .job .number; work = p .job .work - p .had; deadline = p .job .deadline - clock; bound = p .job .bound }
 

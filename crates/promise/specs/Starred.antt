@@ -1,6 +1,6 @@
 -- 01, "Numbers to hold the work against": the cases with a star, one table. Each entry is a case of some kind with what 01 states
 -- of it; `computed` is what the promises' definitions give.
-use Prim.Native.Nat.{ℕ, _*_}
+use Prim.Native.Nat.{ℕ, _+_, _*_}
 use mathlib.Core.Path.{_≡_}
 use mathlib.Core.List.{List, [], _∷_, _++_, map, flatten}
 use lib.IntN.{ℤ, pos, negsuc}
@@ -50,9 +50,9 @@ abbrev pub callsTell : Desk → List Call → List Told
 callsTell d [] = []
 callsTell d (call ∷ calls) = callTells d call ∷ callsTell (returned d call) calls
 
--- a buffer just long enough, full of nines
+-- a buffer one place longer than the plan, full of nines
 abbrev pub lent : ℕ → List ℕ
-lent n = replicate (168 * n) 9
+lent n = replicate (168 * n + 1) 9
 
 abbrev pub computed : Case → Outcome
 computed (file bytes) = prints (planText bytes)
@@ -60,12 +60,12 @@ computed (list machines rows) = plans (planAnswer machines rows (length (lent (r
 computed (rooms machines rows at) = has (map (λ b. (roomAnswer machines rows b, roomFigure machines rows b)) at)
 computed (desk machines calls) = tells (answered ((openOf machines) .answer) [] ∷ callsTell ((openOf machines) .desk) calls) (deskAfter machines calls)
 
--- how 01 states them: a plan, the zeros at the end of its rows left out; a 7 with n rows as lent; rooms
+-- how 01 states them: a plan, the zeros at the end of its rows left out, and the place beyond as lent; a 7 with n rows as lent; rooms
 abbrev pub row : ℕ → ℕ → ℕ → ℕ → List ℕ
 row number work deadline bound = number ∷ work ∷ deadline ∷ bound ∷ []
 
 abbrev pub planOf : List (List ℕ) → Outcome
-planOf rows = plans yes (flatten (map (padded 168) rows))
+planOf rows = plans yes (flatten (map (padded 168) rows) ++ (9 ∷ []))
 
 abbrev pub short : ℕ → ℕ → ℕ → Outcome
 short n place amount = plans (refusal 7 place amount) (lent n)

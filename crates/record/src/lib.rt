@@ -13,7 +13,7 @@ ghost use Rattle.promise.specs.DeskWindow.{seatNumbers, deskBytes, seatAt, desk
 ghost use Rattle.record.specs.Bytes.{wordSet, wordsSet};
 
 // The number of four bytes, lowest first.
-pub fn four(a: u8, b: u8, c: u8, d: u8) -> u32
+fn four(a: u8, b: u8, c: u8, d: u8) -> u32
     ensures { λ r. ⌜ r ≡ fourOf a b c d ⌝ }
 {
     a as u32 + 256 * (b as u32) + 65536 * (c as u32) + 16777216 * (d as u32)
@@ -29,7 +29,7 @@ pub fn word_at(bytes: &[u8], i: usize) -> u32
 }
 
 // Seat i of a record.
-pub fn seat_at(bytes: &[u8], i: usize) -> Held
+fn seat_at(bytes: &[u8], i: usize) -> Held
     requires { ⌜ (length (now bytes) ≡ 776) × (i < 32) ⌝ }
     ensures { λ r. ⌜ r ≡ seatAt (now (bytes .entry)) i ⌝ }
 {
@@ -64,7 +64,7 @@ pub fn read_desk(bytes: &[u8]) -> Desk
 }
 
 // A number as the four bytes of number i, lowest first.
-pub fn put_word(out: &mut [u8], i: usize, v: u32)
+fn put_word(out: &mut [u8], i: usize, v: u32)
     requires { ⌜ 4 * i + 3 < length (now out) ⌝ }
     ensures { λ _. ⌜ now (out .exit) ≡ wordSet (now (out .entry)) i v ⌝ }
 {
@@ -104,7 +104,7 @@ pub fn write_desk(desk: Desk, out: &mut [u8])
 }
 
 // Look's four figures, at the start of a buffer.
-pub fn write_figures(told: Looked, out: &mut [u8])
+fn write_figures(told: Looked, out: &mut [u8])
     requires { ⌜ 16 ≤ length (now out) ⌝ }
     ensures { λ _. ⌜ now (out .exit) ≡ sentOver (lookNumbers told) (now (out .entry)) ⌝ }
 {
@@ -124,7 +124,7 @@ fn put_pair(out: &mut [u8], i: usize, g: Given)
 }
 
 // Run's 32 pairs, at the start of a buffer.
-pub fn write_pairs(given: [Given; 32], out: &mut [u8])
+fn write_pairs(given: [Given; 32], out: &mut [u8])
     requires { ⌜ 256 ≤ length (now out) ⌝ }
     ensures { λ _. ⌜ now (out .exit) ≡ sentOver (flatten (map pairNumbers given)) (now (out .entry)) ⌝ }
 {

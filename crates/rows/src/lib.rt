@@ -33,7 +33,7 @@ pub fn refuse(number: u32, place: u32, amount: u32) -> Answer
 }
 
 // A 4 if the value of a field is out of its range.
-pub fn range_fault(place: u32, field: u32, value: u32, least: u32, greatest: u32) -> Answer
+fn range_fault(place: u32, field: u32, value: u32, least: u32, greatest: u32) -> Answer
     ensures { λ r. ⌜ r ≡ rangeFault place field value least greatest ⌝ }
 {
     if value < least {
@@ -65,7 +65,7 @@ pub fn fields_fault(place: u32, j: Job, from: u32, to: u32) -> Answer
 }
 
 // Row i of the list.
-pub fn row(rows: &[u32], i: usize) -> Job
+fn row(rows: &[u32], i: usize) -> Job
     requires { ⌜ (i < 32) × (4 * i + 3 < length (now rows)) ⌝ }
     ensures { λ r. ⌜ asJob r ≡ rowAt (now (rows .entry)) i ⌝ }
 {
@@ -79,7 +79,7 @@ pub fn row(rows: &[u32], i: usize) -> Job
 }
 
 // The number stands in one of the rows before row i.
-pub fn seen(rows: &[u32], number: u32, i: usize) -> bool
+fn seen(rows: &[u32], number: u32, i: usize) -> bool
     requires { ⌜ (i < 32) × (4 * i ≤ length (now rows)) ⌝ }
     ensures { λ r. ⌜ r ≡ seenBefore (now (rows .entry)) number i ⌝ }
 {
@@ -94,7 +94,7 @@ pub fn seen(rows: &[u32], number: u32, i: usize) -> bool
 }
 
 // The first fault of row i: its fields in order, then its number.
-pub fn row_fault(rows: &[u32], i: usize) -> Answer
+fn row_fault(rows: &[u32], i: usize) -> Answer
     requires { ⌜ (i < 32) × (4 * i + 3 < length (now rows)) ⌝ }
     ensures { λ r. ⌜ r ≡ rowFault (now (rows .entry)) i ⌝ }
 {
@@ -111,7 +111,7 @@ pub fn row_fault(rows: &[u32], i: usize) -> Answer
 }
 
 // The first fault of the rows, row by row from 0.
-pub fn rows_fault(rows: &[u32]) -> Answer
+fn rows_fault(rows: &[u32]) -> Answer
     requires { ⌜ rowCount (now rows) ≤ 32 ⌝ }
     ensures { λ r. ⌜ r ≡ rowsFault (now (rows .entry)) 0 (rowCount (now (rows .entry))) ⌝ }
 {

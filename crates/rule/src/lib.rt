@@ -25,7 +25,7 @@ pub enum Chosen {
 }
 
 // The share can take one more machine in slot t.
-pub fn may_take(p: Share, t: u32) -> bool
+fn may_take(p: Share, t: u32) -> bool
     ensures { λ r. ⌜ r ≡ qualifies t (asShare p) ⌝ }
 {
     let j = p.job;
@@ -39,7 +39,7 @@ pub fn may_take(p: Share, t: u32) -> bool
 }
 
 // Share p goes before share q.
-pub fn goes_before(p: Share, q: Share) -> bool
+fn goes_before(p: Share, q: Share) -> bool
     ensures { λ r. ⌜ r ≡ before (asShare p) (asShare q) ⌝ }
 {
     let j = p.job;
@@ -56,7 +56,7 @@ pub fn goes_before(p: Share, q: Share) -> bool
 }
 
 // Of share p at index i and the choice so far, the one that goes before the other.
-pub fn choose(i: usize, p: Share, best: Chosen) -> Chosen
+fn choose(i: usize, p: Share, best: Chosen) -> Chosen
     ensures { λ r. ⌜ r ≡ chooseOf i p best ⌝ }
 {
     let Chosen::At(k, q) = best else {
@@ -69,7 +69,7 @@ pub fn choose(i: usize, p: Share, best: Chosen) -> Chosen
 }
 
 // The share that the next machine of slot t goes to, among the first n.
-pub fn pick(table: Table, n: usize, t: u32) -> Chosen
+fn pick(table: Table, n: usize, t: u32) -> Chosen
     requires { ⌜ n ≤ 32 ⌝ }
     ensures { λ r. ⌜ r ≡ pickFrom t 0 (take n (table .shares)) ⌝ }
 {
@@ -86,7 +86,7 @@ pub fn pick(table: Table, n: usize, t: u32) -> Chosen
 }
 
 // The table with one machine more for share p at index i.
-pub fn give(table: Table, i: usize, p: Share) -> Table
+fn give(table: Table, i: usize, p: Share) -> Table
     requires { ⌜ (i < 32) × Ready p ⌝ }
     ensures { λ r. ⌜ r .shares ≡ set (table .shares) i (bumped p) ⌝ }
 {
@@ -102,7 +102,7 @@ pub fn give(table: Table, i: usize, p: Share) -> Table
 }
 
 // At most c machines handed out in slot t, one at a time, among the first n shares.
-pub fn hand_out(table: Table, n: usize, t: u32, c: u32) -> Table
+fn hand_out(table: Table, n: usize, t: u32, c: u32) -> Table
     requires { ⌜ (n ≤ 32) × Apart n table ⌝ }
     ensures { λ r. ⌜ sharesOf n r ≡ handOut c t (sharesOf n table) ⌝ }
 {
@@ -119,7 +119,7 @@ pub fn hand_out(table: Table, n: usize, t: u32, c: u32) -> Table
 }
 
 // A new slot: nothing is given in it yet.
-pub fn clear(table: Table) -> Table
+fn clear(table: Table) -> Table
     ensures { λ r. ⌜ r .shares ≡ map cleared (table .shares) ⌝ }
 {
     let mut now = table;

@@ -45,7 +45,7 @@ pub fn find(desk: Desk, n: usize, number: u32) -> Found
 }
 
 // How many of the first n seats stand before a new job of this number.
-pub fn rank(desk: Desk, n: usize, number: u32) -> usize
+fn rank(desk: Desk, n: usize, number: u32) -> usize
     requires { ⌜ n ≤ 32 ⌝ }
     ensures { λ r. ⌜ r ≡ rankIn number (take n (desk .seats)) ⌝ }
 {
@@ -61,7 +61,7 @@ pub fn rank(desk: Desk, n: usize, number: u32) -> usize
 }
 
 // The table with a job put in before a seat; the last seat falls off.
-pub fn insert(desk: Desk, at: usize, h: Held) -> Desk
+fn insert(desk: Desk, at: usize, h: Held) -> Desk
     requires { ⌜ at < 32 ⌝ }
     ensures { λ r. ⌜ (r .seats ≡ take 32 (take at (desk .seats) ++ h ∷ drop at (desk .seats))) × (r .machines ≡ desk .machines) × (r .clock ≡ desk .clock) ⌝ }
 {
@@ -78,7 +78,7 @@ pub fn insert(desk: Desk, at: usize, h: Held) -> Desk
 }
 
 // The table without a seat: the ones after it move up, and the last is free.
-pub fn remove(desk: Desk, at: usize) -> Desk
+fn remove(desk: Desk, at: usize) -> Desk
     requires { ⌜ at < 32 ⌝ }
     ensures { λ r. ⌜ (r .seats ≡ take at (desk .seats) ++ (drop (at + 1) (desk .seats) ++ (unused ∷ []))) × (r .machines ≡ desk .machines) × (r .clock ≡ desk .clock) ⌝ }
 {

@@ -1,7 +1,7 @@
 -- Slot 1 of the plan from the shares as the core leaves them, and what a slot does to the held jobs.
 use Prim.Native.Nat.{ℕ, zero, suc}
 use mathlib.Core.Bool.{cond}
-use mathlib.Core.List.{List, [], _∷_, map}
+use mathlib.Core.List.{List, [], _∷_}
 use lib.Dec.{leb}
 use Rattle.model.specs.Rule.{Share, fill}
 use Rattle.promise.specs.declared.Held.{Held}

@@ -55,7 +55,7 @@ pub fn pairs_of(table: Table, n: usize) -> [Given; 32]
 }
 
 // A held job with so many units less to do.
-pub fn less_work(h: Held, machines: u32) -> Held
+fn less_work(h: Held, machines: u32) -> Held
     requires { ⌜ machines ≤ h .left ⌝ }
     ensures { λ r. ⌜ r ≡ lowered machines h ⌝ }
 {

@@ -12,7 +12,7 @@ ghost use Rattle.promise.specs.Desk.{heldOf, toPlan};
 ghost use Rattle.promise.specs.DeskCalls.{seatOk, seatFits, isUnused, allUnused, seatsOk, noneShort, isSound};
 
 // A seat in use is as it must be; its number is looked at by the caller.
-pub fn seat_ok(h: Held, clock: u32) -> bool
+fn seat_ok(h: Held, clock: u32) -> bool
     ensures { λ r. ⌜ r ≡ seatOk clock h ⌝ }
 {
     if 65535 < h.number {
@@ -40,7 +40,7 @@ pub fn seat_ok(h: Held, clock: u32) -> bool
 }
 
 // The rest of it: bound, slots, and the admitted work within them.
-pub fn seat_fits(h: Held, clock: u32) -> bool
+fn seat_fits(h: Held, clock: u32) -> bool
     requires { ⌜ clock ≤ h .deadline ⌝ }
     ensures { λ r. ⌜ r ≡ seatFits clock h ⌝ }
 {
@@ -62,7 +62,7 @@ pub fn seat_fits(h: Held, clock: u32) -> bool
     h.work <= h.bound * h.slots
 }
 
-pub fn is_unused(h: Held) -> bool
+fn is_unused(h: Held) -> bool
     ensures { λ r. ⌜ r ≡ isUnused h ⌝ }
 {
     if h.number != 0 {
@@ -84,7 +84,7 @@ pub fn is_unused(h: Held) -> bool
 }
 
 // All seats from one on are unused.
-pub fn all_unused(desk: Desk, from: usize) -> bool
+fn all_unused(desk: Desk, from: usize) -> bool
     requires { ⌜ from ≤ 32 ⌝ }
     ensures { λ r. ⌜ r ≡ allUnused (drop from (desk .seats)) ⌝ }
 {
@@ -101,7 +101,7 @@ pub fn all_unused(desk: Desk, from: usize) -> bool
 }
 
 // The seats in use rise and are as they must be, and all others are unused.
-pub fn seats_ok(desk: Desk) -> bool
+fn seats_ok(desk: Desk) -> bool
     ensures { λ r. ⌜ r ≡ seatsOk (desk .clock) 0 (desk .seats) ⌝ }
 {
     let mut before: u32 = 0;
@@ -167,7 +167,7 @@ pub fn jobs_of(desk: Desk, n: usize) -> Jobs
 }
 
 // The walk comes to no short boundary.
-pub fn fits(fit: Fit) -> bool
+fn fits(fit: Fit) -> bool
     ensures { λ r. ⌜ r ≡ noneShort (asShort fit) ⌝ }
 {
     match fit {

@@ -44,7 +44,7 @@ pub fn forced_by(list: Jobs, n: usize, b: u32) -> u32
 }
 
 // Of a deadline and the nearest boundary above b so far, the nearer one above b.
-pub fn closer(b: u32, deadline: u32, nearest: Next) -> Next
+fn closer(b: u32, deadline: u32, nearest: Next) -> Next
     ensures { λ r. ⌜ r ≡ closerOf b deadline nearest ⌝ }
 {
     if deadline <= b {
@@ -60,7 +60,7 @@ pub fn closer(b: u32, deadline: u32, nearest: Next) -> Next
 }
 
 // The least deadline of the first n jobs that is above b.
-pub fn next_boundary(list: Jobs, n: usize, b: u32) -> Next
+fn next_boundary(list: Jobs, n: usize, b: u32) -> Next
     requires { ⌜ n ≤ 32 ⌝ }
     ensures { λ r. ⌜ r ≡ nextOf b (asJobs n list) ⌝ }
 {

@@ -199,7 +199,7 @@ module _ (bytes : List ℕ) (n : ℕ) (lent : List ℕ) (early : ℕ) (e : early
   unfolding lookBytesAnswer
   look-early h =
       let same = output-first bytes (length lent) 16 early e h _ in
-      record { answered = whole-word early _ same; left = sym (stays 1 bytes no-job n lent .look (λ z. h (same-number same ∙ z))); kept = refl }
+      record { answered = whole-word early _ same; left = refl; told = sym (stays 1 bytes no-job n lent .look (λ z. h (same-number same ∙ z))) }
 
   module _ (z : early ≡ 0) where
     pub look-length : length bytes ≡ 776
@@ -224,8 +224,8 @@ module _ (bytes : List ℕ) (n : ℕ) (lent : List ℕ) (early : ℕ) (e : early
       unfolding figuresTold
       look-promised word after w a = record {
         answered = w ∙ ap pack look-same;
-        left = a ∙ ap₂ (λ (x : Answer) (y : Looked). outputLeft x (lookNumbers y) lent) look-same look-read;
-        kept = refl;
+        left = refl;
+        told = a ∙ ap₂ (λ (x : Answer) (y : Looked). outputLeft x (lookNumbers y) lent) look-same look-read;
       }
 
 -- Run

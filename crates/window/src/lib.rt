@@ -14,7 +14,7 @@ ghost use Rattle.promise.specs.DeskWindow.{outputFault, OpenBytesPromise, Admit
 ghost use Rattle.window.specs.Bytes.{twoSet, earlyFault, RowsPromise};
 
 // number + 256 × place + 2^32 × amount
-pub fn packed(a: Answer) -> u64
+fn packed(a: Answer) -> u64
     requires { ⌜ Packs a ⌝ }
     ensures { λ r. ⌜ r ≡ pack a ⌝ }
 {
@@ -22,7 +22,7 @@ pub fn packed(a: Answer) -> u64
 }
 
 // A room as 32 bits: itself, or 2^32 less the shortage.
-pub fn room_word(room: i32) -> u64
+fn room_word(room: i32) -> u64
     requires { ⌜ mag room < 2000000 ⌝ }
     ensures { λ r. ⌜ r ≡ roomWord room ⌝ }
 {
@@ -33,7 +33,7 @@ pub fn room_word(room: i32) -> u64
 }
 
 // 1, 2 or 3, before any number is read: there is room for the numbers of 32 rows. Else 0.
-pub fn early_fault(machines: u32, list: &[u8]) -> u32
+fn early_fault(machines: u32, list: &[u8]) -> u32
     ensures { λ r. ⌜ r ≡ earlyFault machines (now (list .entry)) .number ⌝ }
 {
     if machines < 1 {
@@ -52,7 +52,7 @@ pub fn early_fault(machines: u32, list: &[u8]) -> u32
 }
 
 // The first n list numbers of the bytes.
-pub fn words(list: &[u8], n: usize) -> [u32; 128]
+fn words(list: &[u8], n: usize) -> [u32; 128]
     requires { ⌜ (n ≤ 128) × (4 * n ≤ length (now list)) ⌝ }
     ensures { λ r. ⌜ take n r ≡ wordsFrom (now (list .entry)) 0 n ⌝ }
 {
@@ -75,7 +75,7 @@ fn put_two(plan: &mut [u8], at: usize, v: u16)
 }
 
 // The plan numbers as bytes.
-pub fn write_bytes(numbers: &[u16], plan: &mut [u8])
+fn write_bytes(numbers: &[u16], plan: &mut [u8])
     requires { ⌜ 2 * length (now numbers) ≤ length (now plan) ⌝ }
     ensures { λ _. ⌜ now (plan .exit) ≡ bytesOf (now (numbers .entry)) ++ drop (2 * length (now (numbers .entry))) (now (plan .entry)) ⌝ }
 {
@@ -97,7 +97,7 @@ fn smaller(a: usize, b: usize) -> usize
 }
 
 // Plan on the numbers of a list, into cells that are written as bytes on a yes.
-pub fn plan_bytes(machines: u32, rows: &[u32], cells: &mut [u16], plan: &mut [u8]) -> u64
+fn plan_bytes(machines: u32, rows: &[u32], cells: &mut [u16], plan: &mut [u8]) -> u64
     requires { ⌜ length (now cells) ≡ min (length (now plan) / 2) (168 * rowCount (now rows)) ⌝ }
     ensures { λ r. ⌜ RowsPromise machines (now (rows .entry)) (now (plan .entry)) r (now (plan .exit)) ⌝ }
 {
@@ -199,7 +199,7 @@ pub extern "C" fn vezhdanur_admit(
 }
 
 // A refusal packed, or a remaining work in the upper half.
-pub fn withdrawn_word(answer: Answer, left: u32) -> u64
+fn withdrawn_word(answer: Answer, left: u32) -> u64
     requires { ⌜ Packs answer ⌝ }
     ensures { λ r. ⌜ r ≡ cond (eqb (answer .number) 0) (4294967296 * left) (pack answer) ⌝ }
 {
@@ -226,7 +226,7 @@ pub extern "C" fn vezhdanur_withdraw(bytes: &mut [u8], number: u32) -> u64
 }
 
 // 12, then 6 for an output buffer of fewer bytes than are written. Else 0.
-pub fn output_fault(bytes: &[u8], lent: usize, written: usize) -> u32
+fn output_fault(bytes: &[u8], lent: usize, written: usize) -> u32
     ensures { λ r. ⌜ r ≡ (outputFault (now (bytes .entry)) lent written) .number ⌝ }
 {
     if bytes.len() != 776 {

@@ -42,7 +42,7 @@ fn write_digit(out: &mut [u8], at: usize, n: u32, power: u32) -> usize
     at + 1
 }
 
-pub fn write_number(out: &mut [u8], at: usize, n: u32) -> usize
+fn write_number(out: &mut [u8], at: usize, n: u32) -> usize
     requires { ⌜ at + length (decimal n) ≤ length (now out) ⌝ }
     ensures { λ r. ⌜ Writes (decimal n) at (now (out .entry)) r (now (out .exit)) ⌝ }
 {

@@ -33,7 +33,7 @@ unfolding rowCount
 returns-2 c =
     let l = c .before .before .before .before in
     let a = l .before .before .before .args in
-    plan-short-buffer (a .machines) (a .list .now) (l .list-fault .result) (l .list-fault .ensures) (a .plan .now) (omega arith) (c .before .if2 .taken) (c .refuse .result) (c .refuse .ensures)
+    plan-short-buffer (a .machines) (a .list .now) (l .list-fault .result) (l .list-fault .ensures) (a .plan .now) (omega arith) (omega arith) (c .refuse .result) (c .refuse .ensures)
 
 load-requires : tie.Need-load-requires
 load-requires c κs =

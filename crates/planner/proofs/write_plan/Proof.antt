@@ -10,7 +10,7 @@ use Rattle.rule.specs.Shares.{sharesOf}
 use Rattle.walk.specs.Walk.{asJobs}
 use Rattle.walk.proofs.Laws.{jobs-length}
 use Rattle.promise.specs.Lists.{written}
-use Rattle.planner.specs.Writing.{writeFrom}
+use Rattle.planner.proofs.Writing.{writeFrom}
 use Rattle.planner.proofs.Shares.{start-shares, apart-still, slim-still}
 use Rattle.planner.proofs.Writing.{column-length, write-step, write-end, writes-the-rows}
 use borrow.Author.Needs.{needs}
