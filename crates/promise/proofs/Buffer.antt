@@ -1,4 +1,4 @@
--- P1: the buffer of Plan.
+-- L1: the buffer of Plan.
 use Prim.Native.Nat.{ℕ, zero, suc, _+_, _*_, _-_, _≤_, _<_}
 use native.Mathlib.Nat.{add-zero}
 use native.Mathlib.Decide.{ℕ-discrete}

@@ -1,4 +1,4 @@
--- P3: the 7 is true.
+-- L3: the 7 is true.
 use Prim.Native.Nat.{ℕ, suc, _<_}
 use native.Mathlib.Omega.{arith}
 use mathlib.Core.Path.{_≡_, refl}

@@ -1,4 +1,4 @@
--- P4: every answer packs without loss.
+-- L4: every answer packs without loss.
 use Prim.Native.Nat.{ℕ, zero, suc, _+_, _*_, _%_, _≤_, _<_}
 use native.Mathlib.Omega.{arith}
 use mathlib.Core.Path.{_≡_, refl}

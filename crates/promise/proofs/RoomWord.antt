@@ -1,4 +1,4 @@
--- P4: the room, read back from the word.
+-- L4: the room, read back from the word.
 use Prim.Native.Nat.{ℕ, suc, _*_, _-_, _/_, _%_, _≤_, _<_}
 use native.Mathlib.Nat.{mul-le-mul, mul-mod-right}
 use native.Mathlib.Decide.{decLt}

@@ -1,4 +1,4 @@
--- P2: the faults of a list, of Plan and of Room are given in the order of the table.
+-- L2: the faults of a list, of Plan and of Room are given in the order of the table.
 use Prim.Native.Nat.{ℕ, zero, suc, _*_, _%_, _<_}
 use native.Mathlib.Decide.{decLt}
 use native.Mathlib.Omega.{arith}

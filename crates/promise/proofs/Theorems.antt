@@ -36,21 +36,21 @@ use Rattle.promise.proofs.FileOrder
 use Rattle.promise.proofs.TextSize
 use Rattle.promise.proofs.Starred
 
--- P1
+-- L1
 pub yes-writes-the-plan : YesWritesThePlan
 yes-writes-the-plan = Buffer.yes-writes-the-plan
 
 pub refusal-writes-nothing : RefusalWritesNothing
 refusal-writes-nothing = Buffer.refusal-writes-nothing
 
--- P2
+-- L2
 pub plan-answers-by-the-table : PlanAnswersByTheTable
 plan-answers-by-the-table = Table.plan-answers-by-the-table
 
 pub room-answers-by-the-table : RoomAnswersByTheTable
 room-answers-by-the-table = Table.room-answers-by-the-table
 
--- P3
+-- L3
 pub plan-seven-is-true : PlanSevenIsTrue
 plan-seven-is-true = Fit.plan-seven-is-true
 
@@ -62,7 +62,7 @@ room-figure-is-the-room = Room.room-figure-is-the-room
 pub row-order-plays-no-part : RowOrderPlaysNoPart
 row-order-plays-no-part = RowOrder.row-order-plays-no-part
 
--- P4
+-- L4
 pub answers-pack : AnswersPack
 answers-pack = Packing.answers-pack
 
@@ -208,6 +208,6 @@ text-fits = TextSize.text-fits
 pub text-promises-leave-one : TextPromisesLeaveOne
 text-promises-leave-one = Unique.text-promises-leave-one
 
--- P1 to P10 and D1
+-- L1 to P10 and D1
 pub starred-cases-come-out : StarredCasesComeOut
 starred-cases-come-out = Starred.starred-cases-come-out

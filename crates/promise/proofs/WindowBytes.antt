@@ -1,4 +1,4 @@
--- P4: the buffer of the window, in bytes.
+-- L4: the buffer of the window, in bytes.
 use Prim.Native.Nat.{ℕ, zero, suc, _+_, _*_, _-_, _/_, _%_, _≤_, _<_}
 use native.Mathlib.Decide.{ℕ-discrete}
 use native.Mathlib.Omega.{arith}

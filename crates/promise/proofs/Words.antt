@@ -1,4 +1,4 @@
--- P4: the numbers that were sent as bytes are those that the window reads.
+-- L4: the numbers that were sent as bytes are those that the window reads.
 use Prim.Native.Nat.{ℕ, zero, suc, _+_, _*_, _/_, _%_, _<_}
 use native.Mathlib.Omega.{arith}
 use mathlib.Core.Path.{_≡_, refl, _∙_, ap, ap₂}

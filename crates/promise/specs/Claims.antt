@@ -58,7 +58,7 @@ PlanSevenIsTrue =
     → All (λ x. ¬ Holds machines rows x) (listOrder rows ++ (plan-buffer size ∷ []))
     → SevenIsTrue machines rows (planAnswer machines rows size)
 
--- Rm: the figure of Room is C × b less the forced work, of any sign, and 0 in a refusal
+-- Room: its figure is C × b less the forced work, of any sign, and 0 in a refusal
 abbrev pub RoomFigureIsTheRoom : Type 0
 RoomFigureIsTheRoom =
     (machines : ℕ) (rows : List ℕ) (b : ℕ)

@@ -6,7 +6,7 @@ ghost use Rattle.model.specs.Jobs.{forced};
 ghost use Rattle.model.specs.Boundaries.{leastShort};
 ghost use Rattle.walk.specs.Walk.{asJobs, Small, closerOf, nextOf, asShort};
 
-// The jobs to plan, in the first places of a table.
+// The jobs to plan, in the first entries of a table.
 pub struct Jobs {
     pub jobs: [Job; 32],
 }
