@@ -1,6 +1,6 @@
 //! The ways to damage a job file. Some of them leave it good: they are just inside a limit.
 
-use crate::files::{group, label, machines_line, printable, size, Lines};
+use crate::files::{fill, group, label, machines_line, printable, smallest_group, Lines};
 use crate::jobfile::MOST_BYTES;
 use crate::model::Job;
 use crate::random::Random;
@@ -364,30 +364,6 @@ fn empty_file(lines: &mut Lines, _: &mut Random) {
 
 fn machines_only(lines: &mut Lines, _: &mut Random) {
     lines.truncate(1);
-}
-
-/// A job of 39 bytes, which is the least.
-fn smallest_group() -> [Vec<u8>; 5] {
-    let job = Job {
-        number: 1,
-        work: 1,
-        deadline: 1,
-        bound: 1,
-    };
-    group(&job, b"")
-}
-
-/// Adds groups up to just this many bytes.
-fn fill(lines: &mut Lines, len: usize) {
-    while size(lines) + 39 <= len {
-        lines.extend(smallest_group());
-    }
-    // Fewer than 39 bytes are missing, and the last two labels, still empty, take up to 48.
-    for at in [lines.len() - 1, lines.len() - 6] {
-        let more = (len - size(lines)).min(24);
-        set_text(&mut lines[at], &vec![b'x'; more]);
-    }
-    assert_eq!(size(lines), len);
 }
 
 fn bytes<const LEN: usize>(lines: &mut Lines, _: &mut Random) {

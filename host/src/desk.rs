@@ -2,7 +2,7 @@
 //! is given out by the independent rule.
 
 use crate::ffi::Answer;
-use crate::ladder::{self, GREATEST, MOST_MACHINES};
+use crate::ladder::{self, MOST_MACHINES};
 use crate::model::{Job, Row};
 use crate::{flow, rule};
 use std::array;
@@ -48,18 +48,14 @@ pub type Given = [(u32, u32); SEATS];
 
 /// The ranges of a new job's fields at this clock.
 pub fn ranges(clock: u32) -> [RangeInclusive<u32>; 4] {
-    let mut ranges = GREATEST.map(|greatest| 1..=greatest);
+    let mut ranges = ladder::ranges();
     ranges[2] = clock + 1..=LAST_CLOCK.min(clock + FURTHEST);
     ranges
 }
 
 /// The first field of a job (from 1) that Admit refuses at this clock.
 pub fn bad_field(clock: u32, job: &Job) -> Option<u32> {
-    let fields = [job.number, job.work, job.deadline, job.bound];
-    (1..)
-        .zip(fields.iter().zip(ranges(clock)))
-        .find(|(_, (value, range))| !range.contains(value))
-        .map(|(field, _)| field)
+    ladder::first_outside(&ranges(clock), job)
 }
 
 impl Desk {
@@ -151,7 +147,7 @@ impl Desk {
     }
 
     fn is_in_range(&self, held: &Held) -> bool {
-        let [numbers, works, _, bounds] = GREATEST.map(|greatest| 1..=greatest);
+        let [numbers, works, _, bounds] = ladder::ranges();
         numbers.contains(&held.number)
             && works.contains(&held.work)
             && (1..=held.work).contains(&held.left)

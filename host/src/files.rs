@@ -1,4 +1,5 @@
-//! Random job files that a reader must take: every line good, the numbers in range or not.
+//! Job files with every line good and the numbers in range or not: random ones that a reader must
+//! take, and such as have just so many bytes.
 
 use crate::jobfile::{LONGEST_LABEL, MOST_BYTES};
 use crate::ladder::GREATEST;
@@ -24,8 +25,36 @@ pub fn group(job: &Job, label: &[u8]) -> [Vec<u8>; 5] {
         format!("work={}\n", job.work).into_bytes(),
         format!("deadline={}\n", job.deadline).into_bytes(),
         format!("bound={}\n", job.bound).into_bytes(),
-        [b"label=", label, b"\n"].concat(),
+        label_line(label),
     ]
+}
+
+fn label_line(label: &[u8]) -> Vec<u8> {
+    [b"label=", label, b"\n"].concat()
+}
+
+/// A job of 39 bytes, which is the least.
+pub fn smallest_group() -> [Vec<u8>; 5] {
+    let job = Job {
+        number: 1,
+        work: 1,
+        deadline: 1,
+        bound: 1,
+    };
+    group(&job, b"")
+}
+
+/// Adds smallest groups up to just this many bytes. There must be place for two.
+pub fn fill(lines: &mut Lines, len: usize) {
+    while size(lines) + 39 <= len {
+        lines.extend(smallest_group());
+    }
+    // Fewer than 39 bytes are missing, and the last two labels, still empty, take up to 48.
+    for at in [lines.len() - 1, lines.len() - 6] {
+        let more = (len - size(lines)).min(LONGEST_LABEL);
+        lines[at] = label_line(&vec![b'x'; more]);
+    }
+    assert_eq!(size(lines), len);
 }
 
 /// A list as a file with random labels.

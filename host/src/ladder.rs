@@ -1,7 +1,8 @@
-//! What each call must answer, by 01's table and order, worked out from the arguments alone.
+//! What Plan and Room must answer, by 01's table and order, worked out from the arguments alone.
 
 use crate::ffi::Answer;
 use crate::model::{jobs, jobs_of_bytes, Job};
+use std::ops::RangeInclusive;
 
 /// The fields' greatest values; the least is 1.
 pub const GREATEST: [u32; 4] = [65_535, 60_000, 168, 64];
@@ -61,11 +62,8 @@ fn bad_list(machines: u32, whole_rows: bool, jobs: &[Job]) -> Option<Answer> {
         return Some(Answer::refusal(3, 0, 0));
     }
     for (row, job) in (0..).zip(jobs) {
-        let fields = [job.number, job.work, job.deadline, job.bound];
-        for (field, (value, greatest)) in (1..).zip(fields.into_iter().zip(GREATEST)) {
-            if !(1..=greatest).contains(&value) {
-                return Some(Answer::refusal(4, row, field));
-            }
+        if let Some(field) = first_outside(&ranges(), job) {
+            return Some(Answer::refusal(4, row, field));
         }
         let earlier = &jobs[..row as usize];
         if earlier.iter().any(|other| other.number == job.number) {
@@ -73,6 +71,19 @@ fn bad_list(machines: u32, whole_rows: bool, jobs: &[Job]) -> Option<Answer> {
         }
     }
     None
+}
+
+/// The ranges of the fields in a list.
+pub fn ranges() -> [RangeInclusive<u32>; 4] {
+    GREATEST.map(|greatest| 1..=greatest)
+}
+
+/// The first field of a job (from 1) that is outside its range.
+pub fn first_outside(ranges: &[RangeInclusive<u32>; 4], job: &Job) -> Option<u32> {
+    (1..)
+        .zip(job.fields().iter().zip(ranges))
+        .find(|(_, (value, range))| !range.contains(value))
+        .map(|(field, _)| field)
 }
 
 /// The least boundary with negative room, and its shortage.

@@ -47,32 +47,11 @@ pub fn at_the_limits(random: &mut Random) -> List {
     (machines, jobs)
 }
 
-/// Works taken from a random schedule that leaves no machine idle which a job could use, then
-/// mostly one change that makes it harder.
+/// Jobs with the works that `fill` gives them, then mostly one change that makes it harder.
 fn full(machines: u32, slots: u32, n: usize, widest: u32, random: &mut Random) -> List {
-    let mut jobs: Vec<Job> = numbers(n, random)
-        .into_iter()
-        .map(|number| Job {
-            number,
-            work: 0,
-            deadline: random.within(1, slots),
-            bound: random.within(1, widest),
-        })
-        .collect();
-    jobs[0].deadline = slots;
-    for slot in 1..=slots {
-        let mut here = vec![0; n];
-        for _ in 0..machines {
-            let free = |&j: &usize| jobs[j].deadline >= slot && here[j] < jobs[j].bound;
-            let free: Vec<usize> = (0..n).filter(free).collect();
-            if free.is_empty() {
-                break;
-            }
-            let j = random.pick(&free);
-            here[j] += 1;
-            jobs[j].work += 1;
-        }
-    }
+    let numbers = numbers(n, random);
+    let mut jobs = without_work(&numbers, slots, widest, random);
+    fill(machines, &mut jobs, random);
     jobs.retain(|job| job.work > 0);
     random.shuffle(&mut jobs);
     let some = random.below(jobs.len());
@@ -85,6 +64,41 @@ fn full(machines: u32, slots: u32, n: usize, widest: u32, random: &mut Random) -
         _ => {}
     }
     (machines, jobs)
+}
+
+/// Jobs with these numbers that `fill` can give their works. The first has all the slots.
+pub fn without_work(numbers: &[u32], slots: u32, widest: u32, random: &mut Random) -> Vec<Job> {
+    let job = |&number: &u32| Job {
+        number,
+        work: 0,
+        deadline: random.within(1, slots),
+        bound: random.within(1, widest),
+    };
+    let mut jobs: Vec<Job> = numbers.iter().map(job).collect();
+    jobs[0].deadline = slots;
+    jobs
+}
+
+/// Gives the jobs the works of a random schedule that leaves no machine idle which a job could use.
+pub fn fill(machines: u32, jobs: &mut [Job], random: &mut Random) {
+    let last = jobs.iter().map(|job| job.deadline).max().unwrap_or(0);
+    for slot in 1..=last {
+        fill_slot(machines, slot, jobs, random);
+    }
+}
+
+fn fill_slot(machines: u32, slot: u32, jobs: &mut [Job], random: &mut Random) {
+    let mut here = vec![0; jobs.len()];
+    for _ in 0..machines {
+        let free = |&j: &usize| jobs[j].deadline >= slot && here[j] < jobs[j].bound;
+        let free: Vec<usize> = (0..jobs.len()).filter(free).collect();
+        if free.is_empty() {
+            break;
+        }
+        let j = random.pick(&free);
+        here[j] += 1;
+        jobs[j].work += 1;
+    }
 }
 
 /// Different job numbers, close together or anywhere, in any order.

@@ -11,13 +11,19 @@ pub struct Job {
     pub bound: u32,
 }
 
+impl Job {
+    /// As they stand in a row of a list.
+    pub fn fields(&self) -> [u32; 4] {
+        [self.number, self.work, self.deadline, self.bound]
+    }
+}
+
 /// The machines of one job; slot t stands at index t - 1.
 pub type Row = [u16; SLOTS];
 
 /// The jobs as the numbers of a list.
 pub fn numbers(jobs: &[Job]) -> Vec<u32> {
-    let fields = |job: &Job| [job.number, job.work, job.deadline, job.bound];
-    jobs.iter().flat_map(fields).collect()
+    jobs.iter().flat_map(Job::fields).collect()
 }
 
 /// The jobs of a list of numbers; an unfinished row at the end is left out.

@@ -39,8 +39,8 @@ pub fn run_in_pieces(pieces: &[&[u8]]) -> Vec<u8> {
     }
     drop(stdin);
     let output = child.wait_with_output().expect("its output can be read");
-    // There is no exit status to a refusal, but a crash is never an answer.
-    assert!(output.status.code().is_some(), "stopped: {}", output.status);
+    // A refusal, too, ends with 0; any other end is no answer.
+    assert!(output.status.success(), "stopped: {}", output.status);
     output.stdout
 }
 

@@ -116,6 +116,26 @@ pub const UNSOUND: &[Unsoundness] = &[
     ("a bound too low", bound_too_low),
 ];
 
+/// A sound record with two jobs at least and a seat to spare.
+pub fn to_damage(random: &mut Random) -> Desk {
+    loop {
+        let desk = sound(random);
+        if (2..SEATS).contains(&desk.held.len()) {
+            return desk;
+        }
+    }
+}
+
+/// A record with just this wrong.
+pub fn unsound((_, damage): &Unsoundness, random: &mut Random) -> Record {
+    loop {
+        let mut record = Record::of(&to_damage(random));
+        if damage(&mut record, random) {
+            return record;
+        }
+    }
+}
+
 fn some_job<'a>(record: &'a mut Record, random: &mut Random) -> &'a mut Held {
     let used = record.used();
     &mut record.seats[random.below(used)]

@@ -76,59 +76,86 @@ fn damaged<T: Any, P>(
 ) -> Call<T> {
     random.shuffle(&mut damages);
     let damages = &damages[..1 + random.below(3)];
-    let hit = |damage| damages.contains(&damage);
-
     let (mut machines, good) = good_list(random);
     let mut boundary = random.within(0, 168);
-    let mut fields = numbers(&good);
-    if hit(Machines) {
+    if damages.contains(&Machines) {
         machines = random.outside(1..=64, machines);
     }
-    if hit(Boundary) {
+    if damages.contains(&Boundary) {
         boundary = random.outside(0..=168, boundary);
     }
-    if hit(Rows) {
-        let n = random.pick(&[33, 34, 40, 256, 256 + good.len(), 300]);
-        while fields.len() < 4 * n {
-            fields.extend([random.within(1, 65_535), 1, random.within(1, 168), 1]);
-        }
+    let jobs = damaged_rows(&good, damages, random);
+    let mut list = (form.lay_out)(&numbers(&jobs));
+    if damages.contains(&Length) {
+        damage_length(&mut list, form.row, random);
     }
-    let n = fields.len() / 4;
-    if hit(Field) && n > 0 {
-        for _ in 0..random.within(1, 3) {
-            let (i, field) = (random.below(n), random.below(4));
-            let value = &mut fields[4 * i + field];
-            *value = random.outside(1..=GREATEST[field], *value);
-        }
-    }
-    if hit(Twice) && n > 0 {
-        for _ in 0..random.within(1, 2) {
-            fields[4 * random.below(n)] = fields[4 * random.below(n)];
-        }
-    }
-
-    let mut list = (form.lay_out)(&fields);
-    if hit(Length) {
-        let by = 1 + random.below(form.row - 1);
-        if by <= list.len() && random.one_in(2) {
-            list.truncate(list.len() - by);
-        } else {
-            list.extend((0..by).map(|_| random.any::<T>()));
-        }
-    }
-    let mut plan_len = form.plan_row * n.min(40);
-    if hit(Buffer) {
-        let less = random.pick(&[1, 2, form.plan_row, plan_len]).min(plan_len);
-        let more = random.pick(&[1, 2, form.plan_row, 1_000]);
-        plan_len = random.pick(&[plan_len - less, plan_len - less, plan_len + more]);
+    let mut plan_len = form.plan_row * jobs.len().min(40);
+    if damages.contains(&Buffer) {
+        plan_len = another_plan_len(plan_len, form.plan_row, random);
     }
     Call {
         machines,
-        jobs: jobs(&fields),
+        jobs,
         list,
         plan_len,
         boundary,
     }
+}
+
+/// The rows of a good list, with such of the damages as are done to rows.
+fn damaged_rows(good: &[Job], damages: &[Damage], random: &mut Random) -> Vec<Job> {
+    let mut fields = numbers(good);
+    if damages.contains(&Rows) {
+        add_rows(&mut fields, random);
+    }
+    if damages.contains(&Field) && !fields.is_empty() {
+        damage_fields(&mut fields, random);
+    }
+    if damages.contains(&Twice) && !fields.is_empty() {
+        repeat_numbers(&mut fields, random);
+    }
+    jobs(&fields)
+}
+
+/// Adds rows up to more than a list may have.
+fn add_rows(fields: &mut Vec<u32>, random: &mut Random) {
+    let n = random.pick(&[33, 34, 40, 256, 256 + fields.len() / 4, 300]);
+    while fields.len() < 4 * n {
+        fields.extend([random.within(1, 65_535), 1, random.within(1, 168), 1]);
+    }
+}
+
+fn damage_fields(fields: &mut [u32], random: &mut Random) {
+    let n = fields.len() / 4;
+    for _ in 0..random.within(1, 3) {
+        let (i, field) = (random.below(n), random.below(4));
+        let value = &mut fields[4 * i + field];
+        *value = random.outside(1..=GREATEST[field], *value);
+    }
+}
+
+fn repeat_numbers(fields: &mut [u32], random: &mut Random) {
+    let n = fields.len() / 4;
+    for _ in 0..random.within(1, 2) {
+        fields[4 * random.below(n)] = fields[4 * random.below(n)];
+    }
+}
+
+/// Makes the list shorter or longer, by less than a row.
+fn damage_length<T: Any>(list: &mut Vec<T>, row: usize, random: &mut Random) {
+    let by = 1 + random.below(row - 1);
+    if by <= list.len() && random.one_in(2) {
+        list.truncate(list.len() - by);
+    } else {
+        list.extend((0..by).map(|_| random.any::<T>()));
+    }
+}
+
+/// Mostly too short for the plan, and otherwise longer than it.
+fn another_plan_len(plan_len: usize, plan_row: usize, random: &mut Random) -> usize {
+    let less = random.pick(&[1, 2, plan_row, plan_len]).min(plan_len);
+    let more = random.pick(&[1, 2, plan_row, 1_000]);
+    random.pick(&[plan_len - less, plan_len - less, plan_len + more])
 }
 
 /// Short lists and full ones; some fit and some do not.
@@ -241,47 +268,47 @@ fn damaged_rooms() {
 }
 
 /// The order of the refusals, said by hand: machines, list, numbers of the plan buffer, answer.
+const ORDER: &[(u32, &[u32], usize, [u32; 3])] = &[
+    // 1, 2, 3 come before any row.
+    (0, &[0; 5], 0, [1, 0, 0]),
+    (65, &[0; 132], 0, [1, 0, 0]),
+    (1, &[0; 5], 0, [2, 0, 0]),
+    (1, &[0; 129], 0, [2, 0, 0]),
+    (1, &[0; 133], 0, [2, 0, 0]),
+    (1, &[0; 132], 0, [3, 0, 0]),
+    (1, &[0; 128], 0, [4, 0, 1]),
+    // The fields of a row in order.
+    (1, &[1, 0, 0, 0], 0, [4, 0, 2]),
+    (1, &[1, 1, 0, 0], 0, [4, 0, 3]),
+    (1, &[1, 1, 1, 0], 0, [4, 0, 4]),
+    // A row's 4 before its 5, and both before the next row.
+    (1, &[1, 1, 1, 1, 1, 0, 1, 1], 0, [4, 1, 2]),
+    (1, &[1, 1, 1, 1, 1, 1, 1, 1, 2, 0, 1, 1], 0, [5, 1, 0]),
+    (1, &[1, 1, 1, 1, 2, 0, 1, 1, 1, 1, 1, 1], 0, [4, 1, 2]),
+    (
+        1,
+        &[7, 1, 1, 1, 8, 1, 1, 1, 7, 1, 1, 1, 8, 1, 1, 1],
+        0,
+        [5, 2, 0],
+    ),
+    // All 32 bits of a number count.
+    (1, &[1, 1, 1, 1, 0x0001_0001, 1, 1, 1], 336, [4, 1, 1]),
+    (1, &[1, 0x0001_0001, 1, 1], 168, [4, 0, 2]),
+    (1, &[1, 1, 0x0100_0001, 1], 168, [4, 0, 3]),
+    (1, &[1, 1, 1, u32::MAX], 168, [4, 0, 4]),
+    (0x0001_0001, &[1, 1, 1, 1], 168, [1, 0, 0]),
+    // 6 after the rows and before 7.
+    (1, &[1, 1, 1, 65], 0, [4, 0, 4]),
+    (1, &[1, 1, 1, 1, 1, 1, 1, 1], 0, [5, 1, 0]),
+    (2, &[1, 4, 2, 2, 2, 2, 3, 1], 335, [6, 0, 0]),
+    (2, &[1, 4, 2, 2, 2, 2, 3, 1], 336, [7, 2, 1]),
+    (2, &[1, 4, 2, 2, 2, 1, 3, 1], 335, [6, 0, 0]),
+    (2, &[1, 4, 2, 2, 2, 1, 3, 1], 336, [0, 0, 0]),
+];
+
 #[test]
 fn order_of_the_refusals() {
-    let zeros = [0; 133];
-    let cases: [(u32, &[u32], usize, [u32; 3]); 25] = [
-        // 1, 2, 3 come before any row.
-        (0, &[0; 5], 0, [1, 0, 0]),
-        (65, &zeros[..132], 0, [1, 0, 0]),
-        (1, &[0; 5], 0, [2, 0, 0]),
-        (1, &zeros[..129], 0, [2, 0, 0]),
-        (1, &zeros, 0, [2, 0, 0]),
-        (1, &zeros[..132], 0, [3, 0, 0]),
-        (1, &zeros[..128], 0, [4, 0, 1]),
-        // The fields of a row in order.
-        (1, &[1, 0, 0, 0], 0, [4, 0, 2]),
-        (1, &[1, 1, 0, 0], 0, [4, 0, 3]),
-        (1, &[1, 1, 1, 0], 0, [4, 0, 4]),
-        // A row's 4 before its 5, and both before the next row.
-        (1, &[1, 1, 1, 1, 1, 0, 1, 1], 0, [4, 1, 2]),
-        (1, &[1, 1, 1, 1, 1, 1, 1, 1, 2, 0, 1, 1], 0, [5, 1, 0]),
-        (1, &[1, 1, 1, 1, 2, 0, 1, 1, 1, 1, 1, 1], 0, [4, 1, 2]),
-        (
-            1,
-            &[7, 1, 1, 1, 8, 1, 1, 1, 7, 1, 1, 1, 8, 1, 1, 1],
-            0,
-            [5, 2, 0],
-        ),
-        // All 32 bits of a number count.
-        (1, &[1, 1, 1, 1, 0x0001_0001, 1, 1, 1], 336, [4, 1, 1]),
-        (1, &[1, 0x0001_0001, 1, 1], 168, [4, 0, 2]),
-        (1, &[1, 1, 0x0100_0001, 1], 168, [4, 0, 3]),
-        (1, &[1, 1, 1, u32::MAX], 168, [4, 0, 4]),
-        (0x0001_0001, &[1, 1, 1, 1], 168, [1, 0, 0]),
-        // 6 after the rows and before 7.
-        (1, &[1, 1, 1, 65], 0, [4, 0, 4]),
-        (1, &[1, 1, 1, 1, 1, 1, 1, 1], 0, [5, 1, 0]),
-        (2, &[1, 4, 2, 2, 2, 2, 3, 1], 335, [6, 0, 0]),
-        (2, &[1, 4, 2, 2, 2, 2, 3, 1], 336, [7, 2, 1]),
-        (2, &[1, 4, 2, 2, 2, 1, 3, 1], 335, [6, 0, 0]),
-        (2, &[1, 4, 2, 2, 2, 1, 3, 1], 336, [0, 0, 0]),
-    ];
-    for (machines, list, plan_len, [number, place, amount]) in cases {
+    for &(machines, list, plan_len, [number, place, amount]) in ORDER {
         let expected = Answer::refusal(number, place, amount);
         let shown = format!("{machines}, {list:?}, {plan_len}");
         let said = ffi::plan_numbers(machines, list, &mut vec![0; plan_len]);

@@ -2,7 +2,7 @@
 //! 12 from every call and stays as it is.
 
 use host::call::{self, Call, FIGURES_BYTES, GIVEN_BYTES};
-use host::desk::{Desk, FURTHEST, LAST_CLOCK, SEATS};
+use host::desk::{FURTHEST, LAST_CLOCK};
 use host::ffi::Answer;
 use host::model::{bytes, numbers_of_bytes, Job};
 use host::random::{cases, Random};
@@ -121,25 +121,10 @@ fn a_record_with_one_number_moved_is_judged_as_by_the_independent_desk() {
     examine(18, cases(6_000), moved, &[0, 6, 7, 10, 12]);
 }
 
-/// A sound record with two jobs at least and a seat to spare.
-fn to_damage(random: &mut Random) -> Desk {
-    loop {
-        let desk = records::sound(random);
-        if (2..SEATS).contains(&desk.held.len()) {
-            return desk;
-        }
-    }
-}
-
-/// A record with just this wrong.
-fn damaged((name, damage): &Unsoundness, random: &mut Random) -> Record {
-    let record = loop {
-        let mut record = Record::of(&to_damage(random));
-        if damage(&mut record, random) {
-            break record;
-        }
-    };
-    let sound = record.desk().is_some();
+/// A record with just this wrong, and so not a desk.
+fn damaged(unsoundness: &Unsoundness, random: &mut Random) -> Record {
+    let record = records::unsound(unsoundness, random);
+    let (name, sound) = (unsoundness.0, record.desk().is_some());
     assert!(!sound, "{name}: a sound record\n{}", show(&record));
     record
 }
@@ -169,7 +154,7 @@ fn is_a_12(record: &[u8], calls: [Call; 4], random: &mut Random) -> Result<(), S
 }
 
 #[test]
-fn any_bytes_at_all_are_a_12_from_every_call_and_stay() {
+fn random_bytes_are_a_12_from_every_call_and_stay() {
     let mut random = Random::new(20);
     for index in 0..cases(1_000) {
         let bytes = records::any_bytes(RECORD_BYTES, &mut random);
@@ -189,7 +174,7 @@ fn a_record_of_another_length_is_a_12_from_every_call_and_stays() {
             continue;
         }
         // Cut short, or with zeros after it.
-        let record = Record::of(&to_damage(&mut random));
+        let record = Record::of(&records::to_damage(&mut random));
         let calls = one_of_each(&record, &mut random);
         let mut bytes = record.bytes();
         bytes.resize(len, 0);

@@ -1,12 +1,10 @@
 //! What is timed: all of it is drawn from one seed.
 
-use host::ffi;
-use host::files::{group, machines_line};
 use host::jobfile::MOST_BYTES;
-use host::lists;
 use host::model::{bytes, numbers, Job};
 use host::random::Random;
 use host::record::RECORD_BYTES;
+use host::{ffi, files, lists};
 
 const MACHINES: u32 = 64;
 pub const JOBS: usize = 32;
@@ -88,34 +86,15 @@ fn exact_lists(n: usize, slots: u32, random: &mut Random) -> Vec<List> {
 
 /// Jobs with the works of a random schedule that leaves no machine idle: the first could use any.
 fn exact(n: usize, slots: u32, widest: u32, random: &mut Random) -> Vec<Job> {
+    let numbers: Vec<u32> = (1..=n as u32).map(|i| 1_000 + 7 * i).collect();
     loop {
-        let mut jobs: Vec<Job> = (1..=n as u32)
-            .map(|number| Job {
-                number: 1_000 + 7 * number,
-                work: 0,
-                deadline: random.within(1, slots),
-                bound: random.within(1, widest),
-            })
-            .collect();
-        (jobs[0].deadline, jobs[0].bound) = (slots, MACHINES);
-        for slot in 1..=slots {
-            take_all_machines(&mut jobs, slot, random);
-        }
+        let mut jobs = lists::without_work(&numbers, slots, widest, random);
+        jobs[0].bound = MACHINES;
+        lists::fill(MACHINES, &mut jobs, random);
         random.shuffle(&mut jobs);
         if jobs.iter().all(|job| job.work > 0) {
             return jobs;
         }
-    }
-}
-
-fn take_all_machines(jobs: &mut [Job], slot: u32, random: &mut Random) {
-    let mut here = vec![0; jobs.len()];
-    for _ in 0..MACHINES {
-        let free = |&j: &usize| jobs[j].deadline >= slot && here[j] < jobs[j].bound;
-        let free: Vec<usize> = (0..jobs.len()).filter(free).collect();
-        let j = random.pick(&free);
-        here[j] += 1;
-        jobs[j].work += 1;
     }
 }
 
@@ -152,18 +131,10 @@ fn admitted(admission: &Admission) -> Vec<u8> {
 }
 
 /// A good file of just 4,096 bytes and of as many groups as there is place for: many more than a list
-/// may have, so all of it is read and nothing is planned. A few short labels fill it up.
+/// may have, so all of it is read and nothing is planned.
 pub fn longest_file() -> Vec<u8> {
-    let job = Job {
-        number: 1,
-        work: 1,
-        deadline: 1,
-        bound: 1,
-    };
-    let machines = machines_line(1);
-    let group = |label: &[u8]| group(&job, label).concat();
-    let spare = MOST_BYTES - machines.len() - FILE_GROUPS * group(b"").len();
-    let labelled = group(b"x").repeat(spare);
-    let plain = group(b"").repeat(FILE_GROUPS - spare);
-    [machines, labelled, plain].concat()
+    let mut lines = vec![files::machines_line(1)];
+    files::fill(&mut lines, MOST_BYTES);
+    assert_eq!(lines.len(), 1 + 5 * FILE_GROUPS);
+    lines.concat()
 }

@@ -6,13 +6,13 @@ use crate::program::{self, Files};
 use fast::{desk, list};
 use host::call::{on_library, Call, GIVEN_BYTES};
 use host::damage::DAMAGES;
-use host::desk::{Desk, SEATS};
+use host::desk::Desk;
 use host::ffi::{self, Answer};
 use host::histories::{play, Manner, CROWDED, ORDINARY, WIDE};
 use host::ladder::GREATEST;
 use host::model::{bytes, show, Job};
 use host::random::{Any, Random};
-use host::record::{encode, Record};
+use host::record::encode;
 use host::{files, lists, records};
 
 const LISTS: usize = 1_000;
@@ -116,9 +116,9 @@ pub fn desks(inputs: &Inputs, random: &mut Random) {
         history(&records::sound(random), ORDINARY, random);
         history(&records::near_the_end(random), ORDINARY, random);
     }
-    for (_, damage) in records::UNSOUND {
+    for unsoundness in records::UNSOUND {
         for _ in 0..UNSOUND_RECORDS {
-            let record = unsound(*damage, random);
+            let record = records::unsound(unsoundness, random);
             let bytes = record.bytes();
             refusals(&bytes, record.clock, random);
             refusals(&bytes[1..], record.clock, random);
@@ -144,17 +144,6 @@ fn history(start: &Desk, manner: Manner, random: &mut Random) {
         Ok(reply)
     });
     assert_eq!(played.err(), None);
-}
-
-/// A record with one thing wrong.
-fn unsound(damage: fn(&mut Record, &mut Random) -> bool, random: &mut Random) -> Record {
-    loop {
-        let desk = records::sound(random);
-        let mut record = Record::of(&desk);
-        if (2..SEATS).contains(&desk.held.len()) && damage(&mut record, random) {
-            return record;
-        }
-    }
 }
 
 /// A slot, and jobs that other desks would take or refuse, on bytes that are no desk.
