@@ -171,10 +171,10 @@ pub fn withdraw(desk: Desk, number: u32) -> Withdrawn
             desk,
         };
     };
-    let h = desk.seats[i];
+    let gone = desk.seats[i];
     Withdrawn {
         answer: unsound,
-        left: h.left,
+        left: gone.left,
         desk: seats::take_out(desk, n, i, number),
     }
 }

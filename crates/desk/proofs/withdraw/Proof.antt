@@ -64,8 +64,8 @@ returns-2 c =
     withdraw-refused (d .t1) (d .number) (c .refuse .result) (c .refuse .ensures ∙ not-found (d .t1) (f .result) (f .ensures) (clear s) (sound s) (n .result) (n .ensures) (d .number) (o .result) (o .ensures) (c .before .enum-told .given .1))
     (λ z. let w : 10 ≡ 0 = sym (same-number (c .refuse .ensures)) ∙ z in omega arith)
 
-mul-h : tie.Need-mul-h
-mul-h c =
+mul-gone : tie.Need-mul-gone
+mul-gone c =
     let s = c .before .before .before .before .before in
     let d = s .before .before .before .args in
     let f = s .before .before .sound-fault in
@@ -73,8 +73,8 @@ mul-h c =
     let o = c .before .before .before .find in
     let q = early c in omega arith
 
-element-copy-out-h : tie.Need-element-copy-out-h
-element-copy-out-h c =
+element-copy-out-gone : tie.Need-element-copy-out-gone
+element-copy-out-gone c =
     let q = early c in omega arith
 
 take-out-requires : tie.Need-take-out-requires
@@ -109,7 +109,7 @@ withdraw-spec =
     enum-told
     refuse-requires
     returns-2
-    mul-h
-    element-copy-out-h
+    mul-gone
+    element-copy-out-gone
     take-out-requires
     returns-3)
