@@ -21,17 +21,17 @@ pub record Open (t : ℕ) (p : Share) : Type 0 where
   pub more : 0 < p .left
   pub below : p .given < p .job .bound
 
+pub not-open : (t : ℕ) (p : Share) → qualifies t p ≡ false → ¬ Open t p
+unfolding qualifies
+not-open t p e o =
+    true≢false (simp (le-leb t (p .job .deadline) (o .due), lt-ltb 0 (p .left) (o .more), lt-ltb (p .given) (p .job .bound) (o .below)) at e)
+
 pub is-open : (t : ℕ) (p : Share) → qualifies t p ≡ true → Open t p
 unfolding qualifies
 is-open t p e =
     let a = and-true (leb t (p .job .deadline) && ltb 0 (p .left)) (ltb (p .given) (p .job .bound)) e in
     let b = and-true (leb t (p .job .deadline)) (ltb 0 (p .left)) (a .0) in
     record { due = leb-true t (p .job .deadline) (b .0); more = ltb-true 0 (p .left) (b .1); below = ltb-true (p .given) (p .job .bound) (a .1) }
-
-pub not-open : (t : ℕ) (p : Share) → qualifies t p ≡ false → ¬ Open t p
-unfolding qualifies
-not-open t p e o =
-    true≢false (simp (le-leb t (p .job .deadline) (o .due), lt-ltb 0 (p .left) (o .more), lt-ltb (p .given) (p .job .bound) (o .below)) at e)
 
 -- p goes before q
 unfoldable pub Before : Share → Share → Type 0

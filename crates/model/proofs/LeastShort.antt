@@ -27,6 +27,17 @@ enter-all P d (b ∷ bs) p h = go (ltb d b) (eqb d b) (enter-all P d bs p (h .1)
     go false true i = h
     go false false i = (h .0, i)
 
+-- what is listed is a boundary
+Boundary-more : (i : Job) (jobs : List Job) (b : ℕ) → Boundary jobs b → Boundary (i ∷ jobs) b
+Boundary-more i jobs b (inl e) = inl e
+Boundary-more i jobs b (inr j) = inr (j .0, List·Memᴰ·tail (j .1), j .2)
+
+pub listed-boundaries : (jobs : List Job) → All (Boundary jobs) (boundaries jobs)
+listed-boundaries [] = (inl refl, tt)
+listed-boundaries (j ∷ jobs) =
+    enter-all (Boundary (j ∷ jobs)) (j .deadline) (boundaries jobs) (inr (j, List·Memᴰ·head refl, refl))
+    (All-map (Boundary-more j jobs) (boundaries jobs) (listed-boundaries jobs))
+
 enter-rising : (d : ℕ) (bs : List ℕ) → Rising bs → Rising (enter d bs)
 enter-rising d [] r = (tt, tt)
 enter-rising d (b ∷ bs) r = go (ltb d b) refl (eqb d b) refl (enter-rising d bs (r .1))
@@ -73,17 +84,6 @@ deadline-listed j (List·Memᴰ·tail {x = i} m) = enter-old (i .deadline) (j .d
 pub zero-listed : (jobs : List Job) → List·Memᴰ 0 (boundaries jobs)
 zero-listed [] = List·Memᴰ·head refl
 zero-listed (j ∷ jobs) = enter-old (j .deadline) 0 (zero-listed jobs)
-
--- what is listed is a boundary
-Boundary-more : (i : Job) (jobs : List Job) (b : ℕ) → Boundary jobs b → Boundary (i ∷ jobs) b
-Boundary-more i jobs b (inl e) = inl e
-Boundary-more i jobs b (inr j) = inr (j .0, List·Memᴰ·tail (j .1), j .2)
-
-pub listed-boundaries : (jobs : List Job) → All (Boundary jobs) (boundaries jobs)
-listed-boundaries [] = (inl refl, tt)
-listed-boundaries (j ∷ jobs) =
-    enter-all (Boundary (j ∷ jobs)) (j .deadline) (boundaries jobs) (inr (j, List·Memᴰ·head refl, refl))
-    (All-map (Boundary-more j jobs) (boundaries jobs) (listed-boundaries jobs))
 
 pub boundary-listed : (jobs : List Job) (b : ℕ) → Boundary jobs b → List·Memᴰ b (boundaries jobs)
 boundary-listed jobs b (inl e) = rw e (zero-listed jobs)
