@@ -13,8 +13,8 @@ use Rattle.promise.specs.declared.Desk.{Desk}
 use Rattle.promise.specs.Answers.{yes}
 use Rattle.promise.specs.Order.{FirstOf, GivenBy}
 use Rattle.promise.specs.Rows.{Field, the-number, the-work, the-deadline, the-bound}
-use Rattle.promise.specs.Desk.{heldOf, toPlan, Sound}
-use Rattle.promise.specs.DeskCalls.{deskFit, withNew, admitAnswer, admitOf, findAnswer, withdrawOf, lookOf, runAnswer, runOf, DeskTest, not-sound, asked, held-already, full, no-fit, not-held, at-the-end, DeskHolds, deskAnswerOf, admitOrder, findOrder, runOrder, HeldAs}
+use Rattle.promise.specs.Desk.{heldOf, Sound}
+use Rattle.promise.specs.DeskCalls.{deskFit, jobsWith, admitAnswer, admitOf, findAnswer, withdrawOf, lookOf, runAnswer, runOf, DeskTest, not-sound, asked, held-already, full, no-fit, not-held, at-the-end, DeskHolds, deskAnswerOf, admitOrder, findOrder, runOrder, HeldAs}
 use Rattle.promise.specs.History.{Call, admit, withdraw, look, run, eventAnswer, happens}
 use Rattle.promise.proofs.Ladder.{same-number}
 use Rattle.promise.proofs.DeskTable.{tells-held, really, desk-answers-by-the-table}
@@ -66,7 +66,7 @@ module _ (desk : Desk) where
     not-twelve j (asked f) h = omega arith
     not-twelve j held-already h = omega arith
     not-twelve j full h = omega arith
-    not-twelve j no-fit h = go (leastShort (desk .machines) (toPlan (desk .machines) (desk .clock) (withNew desk j)))
+    not-twelve j no-fit h = go (leastShort (desk .machines) (jobsWith desk j))
       where
         go : (o : Option Short) → (deskFit (desk .clock) o) .number ≢ 12
         go none = omega arith

@@ -28,7 +28,7 @@ use Rattle.promise.specs.declared.Desk.{Desk}
 use Rattle.promise.specs.Answers.{refusal, fault}
 use Rattle.promise.specs.Rows.{Field, the-number, the-work, the-deadline, the-bound, fieldOf, DueRange, least, greatest, OutOfRange, countFault}
 use Rattle.promise.specs.Desk.{heldOf, deskOf, asPlanned, toPlan, jobsFor, SoundSeat, Sound, column}
-use Rattle.promise.specs.DeskCalls.{openOf, admitDues, newHeld, withNew, admitAnswer, handed, admitOf, findAnswer, without, withdrawOf, lookOf, runAnswer, lowered, afterRun, runOf, asked, HeldAs, DeskHolds, figure, pairs}
+use Rattle.promise.specs.DeskCalls.{openOf, admitDues, newHeld, withNew, jobsWith, admitAnswer, handed, admitOf, findAnswer, without, withdrawOf, lookOf, runAnswer, lowered, afterRun, runOf, asked, HeldAs, DeskHolds, figure, pairs}
 use Rattle.promise.specs.DeskClaims.{SoundnessIsKept, RefusalHandsTheDeskBack}
 use Rattle.promise.proofs.Ladder.{Tells, fails, tells-lt, tells-or}
 use Rattle.promise.proofs.DeskTable.{Admissible, admit-yes, run-yes}
@@ -172,7 +172,7 @@ module _ (desk : Desk) (j : Job) where
       (All-under (λ h. h .number) (λ m. j .number ≢ m) (heldOf desk) (All-mem (heldOf desk) (λ h m e. n (h, m, sym e))))
 
   -- a new job in range that has room with the others makes a sound seat
-  new-seat : ((f : Field) → ¬ DeskHolds desk j (asked f)) → RoomEverywhere (desk .machines) (toPlan (desk .machines) (desk .clock) (withNew desk j))
+  new-seat : ((f : Field) → ¬ DeskHolds desk j (asked f)) → RoomEverywhere (desk .machines) (jobsWith desk j)
       → SoundSeat (desk .clock) (newHeld (desk .clock) j)
   unfolding newHeld withNew admitDues
   new-seat f r =

@@ -139,8 +139,8 @@ pub record RunBytesPromise (bytes given : List ℕ) (word : ℕ) (bytesAfter aft
   pub left : bytesAfter ≡ recordRun bytes given
   pub told : after ≡ pairsTold bytes given
 
--- a history at the window: each call gets the record that the last one left; `lent k` is the buffer for the pairs of the call
--- that k calls come before, if it is a Run
+-- a history at the window: each call gets the record that the last one left; `lent k` is the buffer for the pairs of call k,
+-- counted from 0, if that is a Run
 abbrev pub recordAfter : (ℕ → List ℕ) → List ℕ → List Call → List ℕ
 recordAfter lent bytes [] = bytes
 recordAfter lent bytes (admit j ∷ calls) = recordAfter (λ k. lent (suc k)) (recordAdmitted bytes j) calls

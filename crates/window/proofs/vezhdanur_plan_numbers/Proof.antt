@@ -9,8 +9,7 @@ plan-requires c κs = search needs
 packed-requires : tie.Need-packed-requires
 packed-requires c κs =
     let d = c .before .before in
-    let a = d .before .before .before .before .args in
-    plan-packs (a .machines) (a .rows .now) (a .plan .now) (d .plan .result) _ (d .plan .ensures)
+    plan-packs _ _ _ (d .plan .result) _ (d .plan .ensures)
 
 same-length : tie.Need-same-length
 same-length c = search needs
