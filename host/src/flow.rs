@@ -1,5 +1,6 @@
 //! Whether a list fits, as a flow: source → job (its work) → each slot up to its deadline (its
-//! bound) → sink (the machines). It fits exactly if a greatest flow carries every job's work.
+//! bound) → sink (the machines). It fits exactly if a greatest flow carries every job's work. With the
+//! first slots left out, the greatest flow is the most that the others can take.
 
 use crate::model::Job;
 
@@ -100,20 +101,25 @@ impl Network {
 
 /// Whether the jobs have a valid schedule on this many machines.
 pub fn fits(machines: u32, jobs: &[Job]) -> bool {
-    let slots = jobs.iter().map(|job| job.deadline).max().unwrap_or(0) as usize;
+    work_after(0, machines, jobs) == jobs.iter().map(|job| job.work).sum()
+}
+
+/// The most work of the jobs that this many machines can do in the slots after slot b alone.
+pub fn work_after(b: u32, machines: u32, jobs: &[Job]) -> u32 {
+    let slots = jobs.iter().map(|job| job.deadline).max().unwrap_or(0);
     let (source, sink) = (0, 1);
     let job_node = |j: usize| 2 + j;
-    let slot_node = |slot: usize| 2 + jobs.len() + slot - 1;
+    let slot_node = |slot: u32| 2 + jobs.len() + (slot - b - 1) as usize;
 
-    let mut network = Network::new(2 + jobs.len() + slots);
+    let mut network = Network::new(2 + jobs.len() + slots.saturating_sub(b) as usize);
     for (j, job) in jobs.iter().enumerate() {
         network.join(source, job_node(j), job.work);
-        for slot in 1..=job.deadline as usize {
+        for slot in b + 1..=job.deadline {
             network.join(job_node(j), slot_node(slot), job.bound);
         }
     }
-    for slot in 1..=slots {
+    for slot in b + 1..=slots {
         network.join(slot_node(slot), sink, machines);
     }
-    network.greatest_flow(source, sink) == jobs.iter().map(|job| job.work).sum()
+    network.greatest_flow(source, sink)
 }

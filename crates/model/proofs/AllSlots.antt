@@ -3,7 +3,7 @@ use Prim.Native.Nat.{ℕ, zero, suc, _+_, _*_, _-_, _≤_, _<_}
 use native.Mathlib.Nat.{add-zero, add-suc, sub-zero}
 use native.Mathlib.Decide.{decLe, decLt, ℕ-discrete}
 use native.Mathlib.Omega.{arith}
-use mathlib.Core.Path.{_≡_, refl}
+use mathlib.Core.Path.{_≡_, refl, ap}
 use mathlib.Core.Logic.{_≢_, _⊎_, inl, inr}
 use mathlib.Core.List.{List, [], _∷_, List·Memᴰ, List·Memᴰ·head, List·Memᴰ·tail}
 use lib.IntN.{pos}
@@ -52,47 +52,66 @@ bend P a (j ∷ jobs) h = go (ℕ-discrete (j .deadline) (suc a)) (bend P a jobs
     go (no n) (inl p) = inl p
     go (no n) (inr i) = inr (omega (arith, convex a j n))
 
-module _ (C : ℕ) (jobs : List Job) (zero-enough : forced jobs 0 ≤ C * 0) (deadlines-enough : All (λ j. forced jobs (j .deadline) ≤ C * j .deadline) jobs) where
-  -- where the forced work rises by C at most, it is not short: go down to the boundary below
-  down : (b : ℕ) → forced jobs (suc b) ≤ forced jobs b + C → forced jobs b ≤ C * b
+-- the forced work against a line that starts at b with X and rises by C: it is above the line nowhere from b on
+-- if it is not above it at b and at the deadlines from b on
+module _ (C : ℕ) (jobs : List Job) (b X : ℕ) (here-enough : forced jobs b ≤ X) (deadlines-enough : All (λ j. b ≤ j .deadline → forced jobs (j .deadline) ≤ X + C * (j .deadline - b)) jobs) where
+  -- where the forced work rises by C at most, it is not above the line: go down to the boundary below, or to b
+  down : (c : ℕ) → b ≤ c → forced jobs (suc c) ≤ forced jobs c + C → forced jobs c ≤ X + C * (c - b)
   unfolding forced
-  down zero h = zero-enough
-  down (suc a) h = go (bend (λ d. forced jobs d ≤ C * d) a jobs deadlines-enough) (down a)
+  down c l h = at-b c l (ℕ-discrete b c) (above c h)
     where
-      go : (forced jobs (suc a) ≤ C * suc a) ⊎ (2 * total (forcedOf (suc a)) jobs ≤ total (forcedOf a) jobs + total (forcedOf (suc (suc a))) jobs)
-          → (forced jobs (suc a) ≤ forced jobs a + C → forced jobs a ≤ C * a) → forced jobs (suc a) ≤ C * suc a
-      go (inl e) i = e
-      go (inr c) i = omega (arith, i (omega arith))
+      at-b : (c : ℕ) → b ≤ c → Dec (b ≡ c) → (b < c → forced jobs c ≤ X + C * (c - b)) → forced jobs c ≤ X + C * (c - b)
+      at-b c l (yes e) i = omega (arith, ap (forced jobs) e, here-enough)
+      at-b c l (no n) i = i (omega arith)
 
-  -- from a b that is not short to the one below it
-  below : (b : ℕ) → forced jobs (suc b) ≤ C * suc b → forced jobs b ≤ C * b
-  below b h = go (decLe (forced jobs (suc b)) (forced jobs b + C))
+      above : (c : ℕ) → forced jobs (suc c) ≤ forced jobs c + C → b < c → forced jobs c ≤ X + C * (c - b)
+      above zero h l = absurd (omega arith)
+      above (suc a) h l = go (bend (λ d. b ≤ d → forced jobs d ≤ X + C * (d - b)) a jobs deadlines-enough) (λ r. at-b a (omega arith) (ℕ-discrete b a) (above a r))
+        where
+          go : (b ≤ suc a → forced jobs (suc a) ≤ X + C * (suc a - b))
+              ⊎ (2 * total (forcedOf (suc a)) jobs ≤ total (forcedOf a) jobs + total (forcedOf (suc (suc a))) jobs)
+              → (forced jobs (suc a) ≤ forced jobs a + C → forced jobs a ≤ X + C * (a - b)) → forced jobs (suc a) ≤ X + C * (suc a - b)
+          go (inl e) i = e (omega arith)
+          go (inr c) i =
+              let m : suc a - b ≡ suc (a - b) = omega arith in
+              rw m (omega (arith, i (omega arith)))
+
+  -- from a place that is not above the line to the one before it
+  below : (c : ℕ) → b ≤ c → forced jobs (suc c) ≤ X + C * (suc c - b) → forced jobs c ≤ X + C * (c - b)
+  below c l h = go (decLe (forced jobs (suc c)) (forced jobs c + C))
     where
-      go : Dec (forced jobs (suc b) ≤ forced jobs b + C) → forced jobs b ≤ C * b
-      go (yes e) = down b e
-      go (no n) = omega arith
+      go : Dec (forced jobs (suc c) ≤ forced jobs c + C) → forced jobs c ≤ X + C * (c - b)
+      go (yes e) = down c l e
+      go (no n) =
+          let m : suc c - b ≡ suc (c - b) = omega arith in
+          omega (arith, (rw m at h))
 
-  far-below : (b m : ℕ) → forced jobs (b + m) ≤ C * (b + m) → forced jobs b ≤ C * b
-  far-below b zero h = rw add-zero at h
-  far-below b (suc m) h = far-below b m (below (b + m) (rw add-suc at h))
+  far-below : (c m : ℕ) → b ≤ c → forced jobs (c + m) ≤ X + C * (c + m - b) → forced jobs c ≤ X + C * (c - b)
+  far-below c zero l h = rw (add-zero c) at h
+  far-below c (suc m) l h = far-below c m l (below (c + m) (omega arith) (rw add-suc at h))
 
-  everywhere : (b : ℕ) → forced jobs b ≤ C * b
+  pub under-the-line : (c : ℕ) → b ≤ c → forced jobs c ≤ X + C * (c - b)
   unfolding forced
-  everywhere b =
+  under-the-line c l =
       let last = total (λ j. j .deadline) jobs in
-      far-below b last
-      (down (b + last)
+      far-below c last l
+      (down (c + last) (omega arith)
       (omega (
         arith,
-        total-le (forcedOf (suc (b + last))) (forcedOf (b + last)) jobs
-            (All-map (λ j e. still (b + last) j e) jobs (le-sum (λ j. j .deadline) b jobs)),
+        total-le (forcedOf (suc (c + last))) (forcedOf (c + last)) jobs
+            (All-map (λ j e. still (c + last) j e) jobs (le-sum (λ j. j .deadline) c jobs)),
       )))
 
 -- M4, on the two numbers
 pub enough-everywhere : (C : ℕ) (jobs : List Job) → RoomEverywhere C jobs → (b : ℕ) → forced jobs b ≤ C * b
-enough-everywhere C jobs h =
-    everywhere C jobs (room-forced C jobs 0 (h 0 (inl refl)))
-    (All-mem jobs (λ j m. room-forced C jobs (j .deadline) (h (j .deadline) (inr (j, m, refl)))))
+enough-everywhere C jobs h b =
+    omega (
+      arith,
+      (rw (sub-zero b) at (under-the-line C jobs 0 0 (omega (arith, room-forced C jobs 0 (h 0 (inl refl)))) (All-mem jobs at-deadline) b (omega arith))),
+    )
+  where
+    at-deadline : (j : Job) → List·Memᴰ j jobs → 0 ≤ j .deadline → forced jobs (j .deadline) ≤ 0 + C * (j .deadline - 0)
+    at-deadline j m _ = rw (sub-zero (j .deadline)) (omega (arith, room-forced C jobs (j .deadline) (h (j .deadline) (inr (j, m, refl)))))
 
 pub boundaries-suffice : BoundariesSuffice
 boundaries-suffice C jobs h b = enough-room C jobs b (enough-everywhere C jobs h b)

@@ -43,7 +43,7 @@ rise (b ∷ bs) r zero (suc n) h l = go bs (r .0) n (omega arith)
 rise (b ∷ bs) r (suc m) zero h l = absurd (omega arith)
 rise (b ∷ bs) r (suc m) (suc n) h l = rise bs (r .1) m n (omega arith) (le-of-suc-le-suc l)
 
-index : (b : ℕ) {bs : List ℕ} → List·Memᴰ b bs → (m : ℕ) × (m < length bs) × (getD bs m 0 ≡ b)
+pub index : (b : ℕ) {bs : List ℕ} → List·Memᴰ b bs → (m : ℕ) × (m < length bs) × (getD bs m 0 ≡ b)
 index b (List·Memᴰ·head e) = (0, omega arith, sym e)
 index b (List·Memᴰ·tail m) = let i = index b m in (suc (i .0), omega arith, i .2)
 
@@ -99,7 +99,7 @@ module _ (jobs : List Job) (tasks : Tasks jobs) where
       go [] e l = absurd (let w : _≡_ {A = ℕ} 0 1 = cc in omega arith)
       go (b ∷ bs) e l = omega arith
 
-  tau-mono : (m n : ℕ) → m ≤ n → n ≤ lastIndex jobs → tau jobs m ≤ tau jobs n
+  pub tau-mono : (m n : ℕ) → m ≤ n → n ≤ lastIndex jobs → tau jobs m ≤ tau jobs n
   unfolding tau
   tau-mono m n h l = rise (boundaries jobs) (boundaries-rise jobs) m n h (in-list n l)
 
@@ -107,7 +107,7 @@ module _ (jobs : List Job) (tasks : Tasks jobs) where
   unfolding tau lastIndex
   deadline-index j m = let i = index (j .deadline) (deadline-listed j m) in (i .0, omega (arith, i .1), i .2)
 
-  by-last : All (λ j. j .deadline ≤ tau jobs (lastIndex jobs)) jobs
+  pub by-last : All (λ j. j .deadline ≤ tau jobs (lastIndex jobs)) jobs
   by-last = All-mem jobs (λ j m. let i = deadline-index j m in rw (i .2) at (tau-mono (i .0) (lastIndex jobs) (i .1) (le-refl (lastIndex jobs))))
 
   tau-zero : tau jobs 0 ≡ 0
@@ -115,7 +115,7 @@ module _ (jobs : List Job) (tasks : Tasks jobs) where
   tau-zero = rw (from-zero jobs .1)
 
   -- what is not forced into slots 1 to τ_(L − m) is λ_m
-  lambda-rest : (m : ℕ) → m ≤ lastIndex jobs → forced jobs (tau jobs (lastIndex jobs - m)) + lambda jobs m ≡ wholeWork jobs
+  pub lambda-rest : (m : ℕ) → m ≤ lastIndex jobs → forced jobs (tau jobs (lastIndex jobs - m)) + lambda jobs m ≡ wholeWork jobs
   unfolding forced wholeWork
   lambda-rest zero h = rw (sub-zero (lastIndex jobs)) (omega (arith, all-forced jobs (tau jobs (lastIndex jobs)) by-last))
   lambda-rest (suc m) h =
@@ -140,7 +140,7 @@ module _ (jobs : List Job) (tasks : Tasks jobs) where
           let z : i .0 ≡ 0 = omega (arith, i .1) in
           absurd (omega (arith, sym (i .2) ∙ ap (tau jobs) z ∙ tau-zero, All-at (λ j. (1 ≤ j .deadline) × (1 ≤ j .bound)) j tasks m .0))
 
-  lambda-mono : (m : ℕ) → m < lastIndex jobs → lambda jobs m ≤ lambda jobs (suc m)
+  pub lambda-mono : (m : ℕ) → m < lastIndex jobs → lambda jobs m ≤ lambda jobs (suc m)
   lambda-mono m h =
       omega (
         arith,
@@ -150,7 +150,7 @@ module _ (jobs : List Job) (tasks : Tasks jobs) where
       )
 
   module _ (C : ℕ) where
-    lambdaC-le : (m : ℕ) → m ≤ lastIndex jobs → lambdaC C jobs m ≤ lambda jobs m
+    pub lambdaC-le : (m : ℕ) → m ≤ lastIndex jobs → lambdaC C jobs m ≤ lambda jobs m
     lambdaC-le zero h = omega arith
     lambdaC-le (suc m) h = omega (arith, lambdaC-le m (omega arith), lambda-mono m h)
 
@@ -158,7 +158,7 @@ module _ (jobs : List Job) (tasks : Tasks jobs) where
     Enough : Type 0
     Enough = (m : ℕ) → m ≤ lastIndex jobs → forced jobs (tau jobs m) ≤ C * tau jobs m
 
-    step : (m : ℕ) → m < lastIndex jobs → tau jobs (lastIndex jobs - suc m + 1) ≡ tau jobs (lastIndex jobs - m)
+    pub step : (m : ℕ) → m < lastIndex jobs → tau jobs (lastIndex jobs - suc m + 1) ≡ tau jobs (lastIndex jobs - m)
     step m h = ap (tau jobs) (omega arith)
 
     kept : Enough → (m : ℕ) → m ≤ lastIndex jobs → wholeWork jobs - lambdaC C jobs m ≤ C * tau jobs (lastIndex jobs - m)

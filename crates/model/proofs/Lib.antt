@@ -14,5 +14,8 @@ pub mod FirstColumn
 pub mod Exactly
 pub mod Easier
 pub mod Document
+pub mod Figure
+pub mod Monday
+pub mod Optimal
 pub mod RuleIs
 pub mod Theorems

@@ -19,7 +19,7 @@ upto-mono : (y : ℕ → ℕ) (b n : ℕ) → upto y b ≤ upto y (b + n)
 upto-mono y b zero = rw add-zero (omega arith)
 upto-mono y b (suc n) = rw add-suc (omega (arith, upto-mono y b n))
 
-forced-upto : (b : ℕ) (j : Job) (y : ℕ → ℕ) → Serves y j → forcedOf b j ≤ upto y b
+pub forced-upto : (b : ℕ) (j : Job) (y : ℕ → ℕ) → Serves y j → forcedOf b j ≤ upto y b
 unfolding forcedOf
 forced-upto b j y s = go (decLe b (j .deadline))
   where

@@ -20,7 +20,7 @@ use Rattle.model.proofs.SlotLemma.{slot-lemma, fill-le}
 use Rattle.model.proofs.Shares.{numbersOf, numbers-giveTo, numbers-clear, numbers-fill, fresh-distinct, share-fresh, share-of, share-other, share-given, share-clear, left-le, rest, at-slot, under-slot, within-bound, none-late, all-parts}
 
 -- the forced work up to b of what is left, where the slots from t down to 1 are still to be filled
-keeps : ℕ → ℕ → Share → ℕ
+unfoldable pub keeps : ℕ → ℕ → Share → ℕ
 keeps t b p = p .left - p .job .bound * (min (p .job .deadline) t - b)
 
 -- its part at shares that are past their deadline in slot t
@@ -90,7 +90,7 @@ module _ (t b : ℕ) (l : b ≤ t) where
   past-clear p = omega arith
 
   -- the slot lemma, as it reads for forced work: what is kept below b after the slot is no more than before, or C less than before at b + 1
-  keeps-fill : (C : ℕ) (ps : List Share)
+  pub keeps-fill : (C : ℕ) (ps : List Share)
       → (total (keeps t b) (fill C (suc t) ps) ≤ total (keeps (suc t) b) ps)
       ⊎ (total (keeps t b) (fill C (suc t) ps) + C ≤ total (keeps (suc t) (suc b)) ps)
   unfolding excess
@@ -160,7 +160,7 @@ unfolding Kept
 nothing-left C t ps h =
     omega (arith, kept-rest C t ps h 0 (omega arith), total-le (λ p. p .left) (keeps 0 0) (rest (λ s. C) t ps) (All-of left-keeps (rest (λ s. C) t ps)))
 
-fresh-keeps : (t b : ℕ) (j : Job) → j .deadline ≤ t → keeps t b (fresh j) ≤ forcedOf b j
+pub fresh-keeps : (t b : ℕ) (j : Job) → j .deadline ≤ t → keeps t b (fresh j) ≤ forcedOf b j
 unfolding keeps fresh forcedOf
 fresh-keeps t b j h =
     let m : min (j .deadline) t ≡ j .deadline = omega arith in

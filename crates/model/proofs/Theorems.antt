@@ -1,5 +1,5 @@
 -- The headline statements of specs/Claims.antt, one theorem each.
-use Rattle.model.specs.Claims.{ScheduleExactlyIfRoom, ForcedIsTotalLessLambda, DocumentSaysTheSame, NothingIsCutOff, ZeroIsShort, BoundariesSuffice, BoundariesAreListed, LeastShortIsNamed, NoneShortIsNamed, SlotLemma, PlanIsValid, PlanIsTheRule, StartPlaysNoPart, OrderPlaysNoPart, RowsAreThePlan, FirstColumnLeavesRoom, EasierStaysPossible, BoundsCountAsAsked, CountedChangesNothing}
+use Rattle.model.specs.Claims.{ScheduleExactlyIfRoom, ForcedIsTotalLessLambda, DocumentSaysTheSame, NothingIsCutOff, ZeroIsShort, BoundariesSuffice, BoundariesAreListed, LeastShortIsNamed, NoneShortIsNamed, SlotLemma, PlanIsValid, PlanIsTheRule, StartPlaysNoPart, OrderPlaysNoPart, RowsAreThePlan, FirstColumnLeavesRoom, EasierStaysPossible, BoundsCountAsAsked, CountedChangesNothing, PlanTakesTheLeast, LeastIsTheFigure, FigureIsTheGreatest, FigureIsNeverNegative, PlanIsOptimal}
 use Rattle.model.proofs.Exactly
 use Rattle.model.proofs.Document
 use Rattle.model.proofs.AllSlots
@@ -11,6 +11,9 @@ use Rattle.model.proofs.Order
 use Rattle.model.proofs.Rows
 use Rattle.model.proofs.FirstColumn
 use Rattle.model.proofs.Easier
+use Rattle.model.proofs.Figure
+use Rattle.model.proofs.Monday
+use Rattle.model.proofs.Optimal
 
 -- M1
 pub schedule-exactly-if-room : ScheduleExactlyIfRoom
@@ -81,3 +84,21 @@ bounds-count-as-asked = Exactly.bounds-count-as-asked
 
 pub counted-changes-nothing : CountedChangesNothing
 counted-changes-nothing = Exactly.counted-changes-nothing
+
+-- O1
+pub plan-takes-the-least : PlanTakesTheLeast
+plan-takes-the-least = Monday.plan-takes-the-least
+
+-- O2
+pub least-is-the-figure : LeastIsTheFigure
+least-is-the-figure = Monday.least-is-the-figure
+
+pub figure-is-the-greatest : FigureIsTheGreatest
+figure-is-the-greatest = Figure.figure-is-the-greatest
+
+pub figure-is-never-negative : FigureIsNeverNegative
+figure-is-never-negative = Figure.figure-is-never-negative
+
+-- O3
+pub plan-is-optimal : PlanIsOptimal
+plan-is-optimal = Optimal.plan-is-optimal

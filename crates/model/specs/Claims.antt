@@ -4,7 +4,7 @@ use mathlib.Core.Path.{_≡_}
 use mathlib.Core.Logic.{_⊎_, _↔_}
 use mathlib.Core.List.{List, map, List·Memᴰ}
 use mathlib.Core.Option.{some, none}
-use lib.IntN.{pos}
+use lib.IntN.{ℤ, pos}
 use lib.Signed.{_<ℤ_, _≤ℤ_}
 use Rattle.model.specs.Lists.{All, Perm, Distinct, Rising, span}
 use Rattle.model.specs.Jobs.{Job, numbers, wholeWork, forced, room, counted}
@@ -13,6 +13,7 @@ use Rattle.model.specs.Schedules.{ValidIn, Valid, Possible, afterFirst, 
 use Rattle.model.specs.Rule.{Share, fill, planFrom, plan, planRows, excess}
 use Rattle.model.specs.Follows.{Follows}
 use Rattle.model.specs.Document.{tau, lastIndex, Tasks, lambda, lambdaC, BoundaryCondition}
+use Rattle.model.specs.Monday.{workBy, Greatest, figure, OptimalState}
 
 -- M1 (document 002, Lemma 1 and Theorem 1): a valid schedule exists exactly if no boundary has negative room
 abbrev pub ScheduleExactlyIfRoom : Type 0
@@ -108,3 +109,25 @@ BoundsCountAsAsked = (C : ℕ) (jobs : List Job) → counted C jobs ≡ jobs
 -- the jobs as they count have the valid schedules of the jobs as they were asked for
 abbrev pub CountedChangesNothing : Type 0
 CountedChangesNothing = (C : ℕ) (jobs : List Job) (y : ℕ → ℕ → ℕ) → Valid C (counted C jobs) y ↔ Valid C jobs y
+
+-- O1: no valid schedule does less work in slots 1 to b than the plan
+abbrev pub PlanTakesTheLeast : Type 0
+PlanTakesTheLeast =
+    (C : ℕ) (jobs : List Job) → Distinct (numbers jobs) → (y : ℕ → ℕ → ℕ) → Valid C jobs y → (b : ℕ) → workBy jobs (plan C jobs) b ≤ workBy jobs y b
+
+-- O2: the work that the plan does in slots 1 to b is the figure of 02
+abbrev pub LeastIsTheFigure : Type 0
+LeastIsTheFigure =
+    (C : ℕ) (jobs : List Job) → Distinct (numbers jobs) → RoomEverywhere C jobs → (b : ℕ) → pos (workBy jobs (plan C jobs) b) ≡ figure C jobs b
+
+-- O2: the figure is the greatest of those that 02 names, and nothing else is
+abbrev pub FigureIsTheGreatest : Type 0
+FigureIsTheGreatest = (C : ℕ) (jobs : List Job) (b : ℕ) (z : ℤ) → (figure C jobs b ≡ z) ↔ Greatest C jobs b z
+
+-- O2: it is never below 0, for any list
+abbrev pub FigureIsNeverNegative : Type 0
+FigureIsNeverNegative = (C : ℕ) (jobs : List Job) (b : ℕ) → pos 0 ≤ℤ figure C jobs b
+
+-- O3: the plan is in the optimal state of document 002's Definition 3
+abbrev pub PlanIsOptimal : Type 0
+PlanIsOptimal = (C : ℕ) (jobs : List Job) → Distinct (numbers jobs) → Tasks jobs → RoomEverywhere C jobs → OptimalState C jobs (plan C jobs)

@@ -5,4 +5,5 @@ pub mod Schedules
 pub mod Rule
 pub mod Follows
 pub mod Document
+pub mod Monday
 pub mod Claims

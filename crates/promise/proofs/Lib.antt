@@ -2,6 +2,7 @@ pub mod Ladder
 pub mod Table
 pub mod Sound
 pub mod Buffer
+pub mod Monday
 pub mod Fit
 pub mod Room
 pub mod RowOrder
@@ -45,4 +46,5 @@ pub mod Printing
 pub mod FileOrder
 pub mod TextSize
 pub mod Starred
+pub mod Requested
 pub mod Theorems

@@ -8,7 +8,7 @@ use borrow.Author.Tests.{le-ltb}
 use native.Mathlib.Nat.{le-trans}
 use Rattle.model.specs.Lists.{All, Distinct}
 use Rattle.model.specs.Jobs.{Job, numbers, counted}
-use Rattle.model.specs.Boundaries.{leastShort}
+use Rattle.model.specs.Boundaries.{RoomEverywhere, leastShort}
 use Rattle.model.proofs.Lists.{All-map}
 use Rattle.model.proofs.Exactly.{width-le}
 use Rattle.promise.specs.Answers.{yes, fitAnswer}
@@ -113,6 +113,9 @@ module _ (machines : ℕ) (rows : List ℕ) where
     pub yes-long : 168 * rowCount rows ≤ size
     yes-long =
         let p = All-back (λ x. ¬ Holds machines rows x) (listOrder rows) (plan-buffer size ∷ fit ∷ []) planned-passes in omega (arith, p .0)
+
+    pub yes-fits : ¬ ¬ RoomEverywhere machines (planned machines rows)
+    yes-fits = All-back (λ x. ¬ Holds machines rows x) (listOrder rows) (plan-buffer size ∷ fit ∷ []) planned-passes .1 .0
 
   -- where the list and the buffer are in order, Plan answers by the least short boundary alone
   pub answers-fit : (size : ℕ) → listFault machines rows ≡ yes → 168 * rowCount rows ≤ size

@@ -1,11 +1,13 @@
--- The headline statements of specs/Claims.antt, DeskClaims.antt, DeskWindowClaims.antt, TextClaims.antt and
--- Starred.antt, one theorem each.
-use Rattle.promise.specs.Claims.{WindowReadsTheNumbers, WindowReadsLowestFirst, WindowTakesSixteenARow, WindowCountsBytes, WindowCountsMachinesFirst, YesWritesThePlan, RefusalWritesNothing, PlanAnswersByTheTable, RoomAnswersByTheTable, PlanSevenIsTrue, RoomFigureIsTheRoom, RowOrderPlaysNoPart, PlanPromiseLeavesOne, RoomPromiseLeavesOne, AnswersPack, PackingIsOneToOne, RoomIsReadBack, WindowWritesThePlan, WindowPromisesLeaveOne}
+-- The headline statements of specs/Claims.antt, DeskClaims.antt, DeskWindowClaims.antt, TextClaims.antt,
+-- Starred.antt and Requested.antt, one theorem each.
+use Rattle.promise.specs.Claims.{WindowReadsTheNumbers, WindowReadsLowestFirst, WindowTakesSixteenARow, WindowCountsBytes, WindowCountsMachinesFirst, YesWritesThePlan, RefusalWritesNothing, PlanAnswersByTheTable, RoomAnswersByTheTable, PlanSevenIsTrue, RoomFigureIsTheRoom, RowOrderPlaysNoPart, PlanPromiseLeavesOne, RoomPromiseLeavesOne, AnswersPack, PackingIsOneToOne, RoomIsReadBack, WindowWritesThePlan, WindowPromisesLeaveOne, WrittenPlanTakesTheLeast}
 use Rattle.promise.specs.DeskClaims.{SoundIsTested, DeskAnswersByTheTable, SoundnessIsKept, RefusalHandsTheDeskBack, AdmitSevenIsTrue, RunGivesOutThePlan, DeskCallsLeaveOne, OpenAnswersByTheTable, SeatsAreToldAndKept, DemandThree}
 use Rattle.promise.specs.DeskWindowClaims.{RecordsAreReadBack, RecordsAreLaidOut, RecordsAreWrittenBack, DeskWindowAnswersByTheTable, DeskWindowRefusalLeavesTheBytes, DeskWindowHandsTheDeskOn, HistoryGoesThroughTheWindow, DeskWindowTellsInPlace, DeskWindowPacks, DeskWindowPromisesLeaveOne}
 use Rattle.promise.specs.TextClaims.{NumbersAreReadBack, NumbersArePrintedBack, FileIsRead, FilesHaveTheirOwnText, TextIsPrinted, FilesAreNoTwoNorSix, PrintedNumbersAreWhole, PairsAreTheSlotsInUse, LabelsPlayNoPart, FileOrderPlaysNoPart, TextFits, TextPromisesLeaveOne}
 use Rattle.promise.specs.Starred.{StarredCasesComeOut}
+use Rattle.promise.specs.Requested.{RequestedCasesComeOut}
 use Rattle.promise.proofs.Buffer
+use Rattle.promise.proofs.Monday
 use Rattle.promise.proofs.Table
 use Rattle.promise.proofs.Fit
 use Rattle.promise.proofs.Room
@@ -35,6 +37,7 @@ use Rattle.promise.proofs.Printing
 use Rattle.promise.proofs.FileOrder
 use Rattle.promise.proofs.TextSize
 use Rattle.promise.proofs.Starred
+use Rattle.promise.proofs.Requested
 
 -- L1
 pub yes-writes-the-plan : YesWritesThePlan
@@ -211,3 +214,11 @@ text-promises-leave-one = Unique.text-promises-leave-one
 -- L1 to P10 and D1
 pub starred-cases-come-out : StarredCasesComeOut
 starred-cases-come-out = Starred.starred-cases-come-out
+
+-- O4
+pub written-plan-takes-the-least : WrittenPlanTakesTheLeast
+written-plan-takes-the-least = Monday.written-plan-takes-the-least
+
+-- the worked cases of the requests
+pub requested-cases-come-out : RequestedCasesComeOut
+requested-cases-come-out = Requested.requested-cases-come-out

@@ -10,14 +10,16 @@ use lib.ListN.{length, getD}
 use Rattle.model.specs.Lists.{All, Perm}
 use Rattle.model.specs.Jobs.{forced}
 use Rattle.model.specs.Boundaries.{LeastShort}
-use Rattle.model.specs.Schedules.{Possible}
+use Rattle.model.specs.Schedules.{Valid, Possible}
 use Rattle.model.specs.Rule.{plan}
+use Rattle.model.specs.Monday.{workBy, figure}
 use Rattle.promise.specs.declared.Answer.{Answer}
 use Rattle.promise.specs.declared.RoomAnswer.{RoomAnswer}
 use Rattle.promise.specs.Answers.{yes, refusal}
 use Rattle.promise.specs.Order.{GivenBy}
 use Rattle.promise.specs.Rows.{rowAt, rowCount, jobsOf, machine-count, plan-buffer, listFault, listOrder}
 use Rattle.promise.specs.Window.{wordsOf, sent, windowAnswer, windowBuffer, pack, Packs, roomWindowAnswer, roomPacked, PlanBytesPromise, PlanNumbersPromise, RoomBytesPromise}
+use Rattle.promise.specs.Monday.{rowsBy}
 use Rattle.promise.specs.Lists.{planned, Holds, answerOf, planOrder, planAnswer, planBuffer, PlanPromise, roomOrder, roomAnswer, roomFigure, RoomPromise}
 
 -- L1: on a yes the buffer holds the plan by job number, row by row and slot by slot, and what was lent beyond
@@ -161,3 +163,10 @@ WindowPromisesLeaveOne =
     → (PlanBytesPromise machines list lent word after → PlanBytesPromise machines list lent word′ after′ → (word ≡ word′) × (after ≡ after′))
     × (PlanNumbersPromise machines list lent word after → PlanNumbersPromise machines list lent word′ after′ → (word ≡ word′) × (after ≡ after′))
     × ((b : ℕ) → RoomBytesPromise machines list b word → RoomBytesPromise machines list b word′ → word ≡ word′)
+
+-- O4: what Plan writes on a yes does in slots 1 to b the work of 02's figure, and no valid schedule of the list as it was sent does less
+abbrev pub WrittenPlanTakesTheLeast : Type 0
+WrittenPlanTakesTheLeast =
+    (machines : ℕ) (rows lent : List ℕ) → (planAnswer machines rows (length lent)) .number ≡ 0 → (b : ℕ) → b ≤ 168
+    → (pos (rowsBy (planBuffer machines rows lent) 0 (rowCount rows) b) ≡ figure machines (planned machines rows) b)
+    × ((y : ℕ → ℕ → ℕ) → Valid machines (jobsOf rows) y → rowsBy (planBuffer machines rows lent) 0 (rowCount rows) b ≤ workBy (jobsOf rows) y b)

@@ -1,6 +1,7 @@
 pub mod Answers
 pub mod Order
 pub mod Rows
+pub mod Monday
 pub mod Lists
 pub mod Window
 pub mod Desk
@@ -11,6 +12,7 @@ pub mod JobFile
 pub mod PlanText
 pub mod TextClaims
 pub mod Starred
+pub mod Requested
 pub mod DeskClaims
 pub mod Claims
 pub mod DeskWindow
