@@ -49,6 +49,7 @@ all_unfinished P clock (p ∷ ps) h = go (ltb p.had p.job.work) refl (all_unfini
 -- the admission that a job is owed by
 pub owed_by : (clock : ℕ) (j : Job) (ps : List Promised) → Memᴰ j (unfinished clock ps)
     → (p : Promised) × Memᴰ p ps × (p.had < p.job.work) × (j ≡ remaining clock p)
+owed_by clock j [] m = elim m [ ]
 owed_by clock j (p ∷ ps) m = go (ltb p.had p.job.work) refl (owed_by clock j ps) m
   where
     Found : List Promised → Type 0
