@@ -1,4 +1,6 @@
 // The desk by value: Open, Admit, Withdraw, Look and Run, each with its answer, its figures and the desk.
+#![tactic(auto)]
+
 ghost use Rattle.std.specs.Prelude.{◌≡◌, [], ◌+◌, ◌≤◌, ◌<◌, min, length};
 ghost use Rattle.figures.specs.Jobs.{as_job};
 ghost use Rattle.walk.specs.Walk.{as_short};

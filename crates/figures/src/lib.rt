@@ -1,4 +1,6 @@
 // The leaf functions on numbers: run length, forced work of one job, the signed room, the shortage.
+#![tactic(auto)]
+
 ghost use Rattle.std.specs.Prelude.{◌≡◌, ◌-◌, ◌≤◌, ◌<◌};
 ghost use Rattle.std.specs.Int.Signed.{mag};
 ghost use Rattle.model.specs.Jobs.{run_length, forced_of, room_of, width};

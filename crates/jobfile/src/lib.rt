@@ -1,4 +1,6 @@
 // The reader of a job file: line by line, its numbers kept as they come, up to the first bad line.
+#![tactic(auto)]
+
 ghost use Rattle.std.specs.Prelude.{◌≡◌, true, ◌≤◌, length};
 ghost use Rattle.promise.specs.Answers.{refusal};
 ghost use Rattle.promise.specs.Texts.{all_within, value_from, read_number};

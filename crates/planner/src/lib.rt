@@ -1,4 +1,6 @@
 // The planner: Room and Plan over a lent list, and the plan written row by row, slot by slot.
+#![tactic(auto)]
+
 ghost use Rattle.std.specs.Prelude.{◌≡◌, map, ◌*◌, ◌≤◌, ◌<◌, length, set};
 ghost use Rattle.model.specs.Rule.{plan_rows};
 ghost use Rattle.rule.specs.Shares.{shares_of};

@@ -1,4 +1,6 @@
 // The printed text: from the bytes of a job file to the bytes that the program prints.
+#![tactic(auto)]
+
 ghost use Rattle.std.specs.Prelude.{◌≡◌, ◌+◌, ◌*◌, ◌≤◌, ◌<◌, length};
 ghost use Rattle.promise.specs.Answers.{refusal, first};
 ghost use Rattle.promise.specs.Rows.{row_count, count_fault};

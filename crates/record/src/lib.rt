@@ -1,4 +1,6 @@
 // The desk's record as bytes, read and written, and the numbers that Look and Run write.
+#![tactic(auto)]
+
 ghost use Rattle.std.specs.Prelude.{◌≡◌, ◌+◌, ◌*◌, ◌≤◌, ◌<◌, length};
 ghost use mathlib.Core.List.{map, flatten};
 ghost use Rattle.promise.specs.Window.{four_of, word_at};

@@ -1,4 +1,6 @@
 // A list as it is lent: its check, row by row, and the jobs that are planned.
+#![tactic(auto)]
+
 ghost use Rattle.std.specs.Prelude.{◌≡◌, ◌+◌, ◌*◌, ◌≤◌, ◌<◌, length};
 ghost use Rattle.figures.specs.Jobs.{as_job};
 ghost use Rattle.walk.specs.Walk.{as_jobs};

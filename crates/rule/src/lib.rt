@@ -1,4 +1,6 @@
 // The one planning core: 01's rule in one slot, unit by unit, the table handed on by value for each machine.
+#![tactic(auto)]
+
 ghost use Rattle.std.specs.Prelude.{◌≡◌, map, ◌≤◌, ◌<◌, take, set};
 ghost use Rattle.model.specs.Rule.{qualifies, before, hand_out, fill};
 ghost use Rattle.rule.specs.Shares.{as_share, shares_of, Apart, bumped, cleared, choose_of, pick_from, Ready};

@@ -1,4 +1,6 @@
 // The desk's table: the search for a job number, a job seated by rising number, a job taken out.
+#![tactic(auto)]
+
 ghost use Rattle.std.specs.Prelude.{◌≡◌, ◌∷◌, ◌++◌, [], ◌+◌, ◌≤◌, ◌<◌, length, take, drop};
 ghost use Rattle.promise.specs.Desk.{unused, held_of, table, desk_of};
 ghost use Rattle.promise.specs.DeskCalls.{seated, without};

@@ -1,4 +1,6 @@
 // Run's slot: slot 1 of the plan, the pairs that are answered for it, and the desk after it.
+#![tactic(auto)]
+
 ghost use Rattle.std.specs.Prelude.{◌≡◌, map, ◌+◌, ◌≤◌, ◌<◌, take};
 ghost use Rattle.model.specs.Rule.{fresh};
 ghost use Rattle.rule.specs.Shares.{shares_of};

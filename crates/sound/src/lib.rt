@@ -1,4 +1,6 @@
 // Whether a desk's record is sound: its seats one after the other, then the boundary walk over its jobs.
+#![tactic(auto)]
+
 ghost use Rattle.std.specs.Prelude.{◌≡◌, ◌≤◌, length, take, drop};
 ghost use Rattle.walk.specs.Walk.{as_jobs, as_short};
 ghost use Rattle.promise.specs.Desk.{held_of, to_plan};

@@ -1,4 +1,6 @@
 // The one boundary walk: over the boundaries in rising order, to the first short one.
+#![tactic(auto)]
+
 ghost use Rattle.std.specs.Prelude.{◌≡◌, ◌≤◌, ◌<◌};
 ghost use Rattle.model.specs.Jobs.{forced};
 ghost use Rattle.model.specs.Boundaries.{least_short};

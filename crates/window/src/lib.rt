@@ -1,4 +1,6 @@
 // The host window: the planner and the desk exported on numbers and lent slices.
+#![tactic(auto)]
+
 ghost use Rattle.std.specs.Prelude.{◌≡◌, cond, ◌++◌, ◌+◌, ◌*◌, ◌/◌, ◌≤◌, ◌<◌, min, eqb, length, take, drop};
 ghost use Rattle.std.specs.Int.Signed.{mag};
 ghost use Rattle.promise.specs.Rows.{row_count};

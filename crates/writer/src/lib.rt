@@ -1,4 +1,6 @@
 // Writers: numbers, lines, a refusal, a run line, each put at an index of lent bytes.
+#![tactic(auto)]
+
 ghost use Rattle.std.specs.Prelude.{◌≡◌, false, ◌||◌, [], ◌∷◌, ◌++◌, ◌+◌, ◌≤◌, ◌<◌, ltb, length, set};
 ghost use Rattle.promise.specs.Texts.{decimal, newline};
 ghost use Rattle.promise.specs.PlanText.{refusal_text, pair_text, run_line};
