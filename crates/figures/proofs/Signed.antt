@@ -24,7 +24,7 @@ sub_mag a b H ha hb = go (dec_lt a b)
 
 -- an i32 of small magnitude is read back as it was written
 pub back : (z : ℤ) → mag z < 2147483648 → to_z w32 (of_z w32 z) ≡ z
-back z h = to_z-of_z (record { sfits = h })
+back z h = to_z-of_z {w = w32} (record { sfits = h })
 
 pub of_u32 : (n : ℕ) → n < 2147483648 → to_z w32 n ≡ pos n
 of_u32 n h = to_z_pos w32 h

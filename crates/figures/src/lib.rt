@@ -7,7 +7,7 @@ ghost use Rattle.model.specs.Jobs.{run_length, forced_of, room_of, width};
 ghost use Rattle.model.specs.Boundaries.{shortage};
 ghost use Rattle.figures.specs.Jobs.{as_job};
 
-#[derive(Drop)]
+#[derive(Clone, Copy)]
 pub struct Job {
     pub number: u32,
     pub work: u32,

@@ -1,7 +1,7 @@
 // The types of the calls. What each call promises stands in specs/, the theorems about the promises in proofs/. No function.
 
 // Every answer: 01's number (0 for yes), place and amount.
-#[derive(Drop)]
+#[derive(Clone, Copy)]
 pub struct Answer {
     pub number: u32,
     pub place: u32,
@@ -9,14 +9,14 @@ pub struct Answer {
 }
 
 // What Room answers: the signed room beside the answer.
-#[derive(Drop)]
+#[derive(Clone, Copy)]
 pub struct RoomAnswer {
     pub answer: Answer,
     pub room: i32,
 }
 
 // A held job, in its seat of the desk's table.
-#[derive(Drop)]
+#[derive(Clone, Copy)]
 pub struct Held {
     pub number: u32,
     pub work: u32,
@@ -26,7 +26,7 @@ pub struct Held {
     pub slots: u32,
 }
 
-#[derive(Drop)]
+#[derive(Clone, Copy)]
 pub struct Desk {
     pub machines: u32,
     pub clock: u32,
@@ -34,21 +34,21 @@ pub struct Desk {
 }
 
 // What Open and Admit answer: the desk beside the answer.
-#[derive(Drop)]
+#[derive(Clone, Copy)]
 pub struct Desked {
     pub answer: Answer,
     pub desk: Desk,
 }
 
 // What Withdraw answers: the remaining work of the job that left.
-#[derive(Drop)]
+#[derive(Clone, Copy)]
 pub struct Withdrawn {
     pub answer: Answer,
     pub left: u32,
     pub desk: Desk,
 }
 
-#[derive(Drop)]
+#[derive(Clone, Copy)]
 pub struct Looked {
     pub answer: Answer,
     pub left: u32,
@@ -59,13 +59,13 @@ pub struct Looked {
 }
 
 // The machines given to a job number in a slot.
-#[derive(Drop)]
+#[derive(Clone, Copy)]
 pub struct Given {
     pub number: u32,
     pub machines: u32,
 }
 
-#[derive(Drop)]
+#[derive(Clone, Copy)]
 pub struct Ran {
     pub answer: Answer,
     pub given: [Given; 32],
@@ -73,7 +73,7 @@ pub struct Ran {
 }
 
 // The lines of a job file: the first, then these five for each job.
-#[derive(Drop)]
+#[derive(Clone, Copy)]
 pub enum LineKind {
     MachinesLine,
     JobLine,

@@ -8,20 +8,20 @@ ghost use Rattle.rule.specs.Shares.{as_share, shares_of, Apart, bumped, cleared,
 use figures::Job;
 
 // A job while a plan is made: what is left of its work, and the machines given to it in the slot at hand.
-#[derive(Drop)]
+#[derive(Clone, Copy)]
 pub struct Share {
     pub job: Job,
     pub left: u32,
     pub given: u32,
 }
 
-#[derive(Drop)]
+#[derive(Clone, Copy)]
 pub struct Table {
     pub shares: [Share; 32],
 }
 
 // The share that the next machine goes to, with its index.
-#[derive(Drop)]
+#[derive(Clone, Copy)]
 pub enum Chosen {
     Nothing,
     At(usize, Share),

@@ -9,7 +9,7 @@ ghost use Rattle.seats.specs.Seats.{find_in, rank_in};
 use promise::{Desk, Held};
 
 // Where a job number is held.
-#[derive(Drop)]
+#[derive(Clone, Copy)]
 pub enum Found {
     Nothing,
     At(usize),

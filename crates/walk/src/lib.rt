@@ -9,26 +9,26 @@ ghost use Rattle.walk.specs.Walk.{as_jobs, Small, closer_of, next_of, as_short};
 use figures::Job;
 
 // The jobs to plan, in the first entries of a table.
-#[derive(Drop)]
+#[derive(Clone, Copy)]
 pub struct Jobs {
     pub jobs: [Job; 32],
 }
 
 // A boundary above another, if there is one.
-#[derive(Drop)]
+#[derive(Clone, Copy)]
 pub enum Next {
     Nothing,
     At(u32),
 }
 
 // What the walk comes to: all fits, or a short boundary and its shortage.
-#[derive(Drop)]
+#[derive(Clone, Copy)]
 pub enum Fit {
     Fits,
     Short(u32, u32),
 }
 
-#[derive(Drop)]
+#[derive(Clone, Copy)]
 pub struct Shortage {
     pub place: u32,
     pub amount: u32,
