@@ -16,7 +16,6 @@ use borrow.Author.Tests.{lt-ltb, le-ltb, ltb-true, ltb-false, le-leb, lt-leb, le
 use Rattle.model.specs.Lists.{All, Rising}
 use Rattle.model.specs.Jobs as Model
 use Rattle.model.specs.Jobs.{forced_of, forced, room, room_of}
-use Rattle.model.specs.Boundaries as Boundaries
 use Rattle.model.specs.Boundaries.{Boundary, boundaries, shortage, short_at, first_short, least_short}
 use Rattle.model.proofs.Lists.{All-map, All-at}
 use Rattle.model.proofs.LeastShort.{boundaries_rise, listed_boundaries, zero_listed, deadline_listed}
@@ -153,6 +152,7 @@ above_all b (c ∷ bs) h = rw (lt-ltb b c h.0) refl
 
 -- c is the least of a rising list that is above b
 above_next : (b c : ℕ) (bs : List ℕ) → Rising bs → Memᴰ c bs → b < c → All (λ d. b < d → c ≤ d) bs → above b bs ≡ c ∷ above c bs
+above_next b c [] r m l h = elim m [ ]
 above_next b c (d ∷ bs) r (Memᴰ.head e) l h =
     rw (lt-ltb b d (omega arith), le-ltb c d (omega arith)) (ap (λ (x : ℕ). x ∷ bs) (sym e) ∙ ap (λ (xs : List ℕ). c ∷ xs) (sym (above_all c bs (rw (← e) at r.0))))
 above_next b c (d ∷ bs) r (Memᴰ.tail m) l h =
@@ -166,6 +166,7 @@ above_next b c (d ∷ bs) r (Memᴰ.tail m) l h =
 
 -- from 0 on
 above_zero : (bs : List ℕ) → Rising bs → Memᴰ 0 bs → bs ≡ 0 ∷ above 0 bs
+above_zero [] r m = elim m [ ]
 above_zero (d ∷ bs) r (Memᴰ.head e) =
     let z : d ≡ 0 = sym e in
     rw z (ap (λ (xs : List ℕ). 0 ∷ xs) (sym (above_all 0 bs (rw z at r.0))))
