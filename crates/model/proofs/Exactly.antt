@@ -1,7 +1,7 @@
 -- M1 and R1 from their parts; and the jobs as they count.
 use Prim.Native.Nat.{ℕ, ◌≤◌}
 use native.Mathlib.Nat.{le_refl}
-use mathlib.Core.Path.{◌≡◌, refl, ap}
+use mathlib.Core.Path.{refl, ap}
 use mathlib.Core.List.{List, [], ◌∷◌}
 use Rattle.model.specs.Jobs.{Job, greatest_deadline, width, counted}
 use Rattle.model.specs.Rule.{plan_in, plan}

@@ -11,7 +11,7 @@ use Rattle.promise.specs.DeskCalls.{open_of, admit_of, withdraw_of, look_of, run
 use Rattle.promise.specs.History.{Call, desk_after}
 use Rattle.promise.specs.DeskClaims.{Has32Seats}
 use Rattle.promise.specs.Claims.{four_from}
-use Rattle.promise.specs.Window.{word_at, pack, Packs}
+use Rattle.promise.specs.Window.{pack, Packs}
 use Rattle.promise.specs.DeskWindow.{desk_numbers, desk_bytes, desk_read, open_bytes_answer, record_opened, OpenBytesPromise, admit_bytes_answer, record_admitted, AdmitBytesPromise, withdraw_bytes_answer, withdraw_packed, record_withdrawn, WithdrawBytesPromise, look_bytes_answer, figures_told, LookBytesPromise, run_bytes_answer, record_run, pairs_told, RunBytesPromise, record_after}
 
 -- a record of 32-bit numbers is 776 bytes, and is read as it was written
