@@ -9,7 +9,7 @@ use mathlib.Core.List.{List, [], ◌∷◌, map}
 use mathlib.Core.Option.{Option, some, none}
 use lib.Dec.{ltb}
 use lib.ListN.{length, get_or, take, drop, set, length-map, length-set}
-use lib.Seq.{drop-length, drop-cons, length-take-le, get_or-take, take-set-lt}
+use lib.Seq.{drop-cons, length-take-le, get_or-take, take-set-lt}
 use borrow.Author.Tests.{lt-ltb, le-ltb, le-leb, lt-leb, eq-eqb, ne_eqb}
 use Rattle.model.specs.Lists.{All, Distinct}
 use Rattle.model.specs.Rule as Model
@@ -81,12 +81,6 @@ module _ (t n i : ℕ) (l : List Share) (d : Share) (hi : i < n) (hn : n ≤ len
 
   pub turn_no : (best : Chosen) → best ≡ pick_from t (suc i) (drop (suc i) (take n l)) → b ≡ false → best ≡ pick_from t i (drop i (take n l))
   turn_no best e h = e ∙ sym (turn ∙ rw h refl)
-
-pub turn_start : (t n : ℕ) (l : List Share) → n ≤ length l → Nothing ≡ pick_from t n (drop n (take n l))
-turn_start t n l h = go (take n l) (length-take-le n l h)
-  where
-    go : (m : List Share) → length m ≡ n → Nothing ≡ pick_from t n (drop n m)
-    go m e = rw (← e, drop-length m) refl
 
 -- the choice, as the model makes it
 abbrev as_option : Chosen → Option Model.Share
