@@ -1,16 +1,25 @@
-# Sourced by the scripts beside it, which set `root`.
-# build_if_older TARGET WHAT COMMAND..: builds TARGET if it is not there or a source is newer than it; what the build says is shown
-# only if it fails.
+# Sourced by the scripts beside it and by the gate, from a folder that is named `root`: the program and the static library, proved and
+# built if they are not there or a source is newer than they are.
+program=$root/target/bin/plan
+library=$root/target/staticlib/libwindow.a
+
+# build_if_older TARGET WHAT CRATE COMMAND..: runs COMMAND in the folder of CRATE and puts what it leaves in out/ at TARGET; what
+# the build says is shown only if it fails.
 build_if_older() {
-    local target=$1 what=$2 said
-    shift 2
-    if [ -e "$target" ] && [ -z "$(find "$root/crates" "$root/crates.txt" -newer "$target" -type f ! -path '*/must-fail/*' -print -quit)" ]; then
+    local target=$1 what=$2 crate=$3 said
+    shift 3
+    if [ -e "$target" ] &&
+        [ -z "$(find "$root/crates" "$root/crates.txt" -newer "$target" -type f ! -path '*/must-fail/*' ! -path '*/out/*' -print -quit)" ]; then
         return 0
     fi
-    echo "$(basename "$0"): proving and building $what first; this takes a minute or two" >&2
-    if ! said=$(cd "$root" && "$@" 2>&1); then
+    echo "$(basename "$0"): proving and building $what first; this takes some minutes" >&2
+    if ! said=$(cd "$root/crates/$crate" && "$@" 2>&1 </dev/null); then
         printf '%s\n' "$said" >&2
         return 1
     fi
-    touch "$target"
+    mkdir -p "$(dirname "$target")"
+    cp "$root/crates/$crate/out/$(basename "$target")" "$target" # a copy, newer than every source
 }
+
+build_program() { build_if_older "$program" "the program" plan rt run; }
+build_library() { build_if_older "$library" "the static library" window rt lib; }

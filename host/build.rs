@@ -15,7 +15,7 @@ fn main() {
     println!("cargo:rerun-if-changed={}", library.display());
     assert!(
         library.is_file(),
-        "{} is missing: `rt staticlib window` builds it",
+        "{} is missing: `./test host` builds it",
         library.display()
     );
     println!("cargo:rustc-link-search=native={}", folder.display());
