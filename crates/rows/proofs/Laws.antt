@@ -21,17 +21,6 @@ use Rattle.walk.specs.declared.Jobs.{Jobs}
 use Rattle.walk.specs.Walk.{as_jobs}
 use Rattle.rows.specs.Rows.{dues_of, range_fault}
 
--- one value and its range, test by test
-module _ (place field value least greatest : ℕ) where
-  pub too_small : value < least → refusal 4 place field ≡ range_fault place field value least greatest
-  too_small l = rw (lt-ltb value least l) refl
-
-  pub too_great : least ≤ value → greatest < value → refusal 4 place field ≡ range_fault place field value least greatest
-  too_great l h = rw (le-ltb value least l, lt-ltb greatest value h) refl
-
-  pub in_range : least ≤ value → value ≤ greatest → yes ≡ range_fault place field value least greatest
-  in_range l h = rw (le-ltb value least l, le-ltb greatest value h) refl
-
 -- the fields of a job in order
 module _ (from to place : ℕ) (j : Model.Job) where
   abbrev number_fault : Answer
@@ -128,14 +117,8 @@ module _ (rows : List ℕ) (n : ℕ) where
     row_turn : rows_fault rows i (n - i) ≡ first (row_fault rows i) (rows_fault rows (suc i) (n - suc i))
     row_turn = let e : n - i ≡ suc (n - suc i) = omega arith in ap (rows_fault rows i) e
 
-    pub rows_stop : a.number ≢ 0 → a ≡ rows_fault rows i (n - i)
-    rows_stop h = first_stop a (row_fault rows i) (rows_fault rows (suc i) (n - suc i)) ea h ∙ sym row_turn
-
     pub rows_on : a.number ≡ 0 → rows_fault rows i (n - i) ≡ rows_fault rows (suc i) (n - suc i)
     rows_on z = row_turn ∙ sym (first_past a (row_fault rows i) (rows_fault rows (suc i) (n - suc i)) (rows_fault rows (suc i) (n - suc i)) ea z refl)
-
-  pub rows_end : (i : ℕ) → n ≤ i → yes ≡ rows_fault rows i (n - i)
-  rows_end i l = let e : n - i ≡ 0 = omega arith in rw e refl
 
 -- the number of machines
 module _ (machines : ℕ) where
