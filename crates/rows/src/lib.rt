@@ -142,6 +142,7 @@ pub fn count_fault(machines: u32) -> Answer
 }
 
 // 1, 2, 3, then row by row.
+#[tactic(auto, using(crate::proofs::Laws::many_rows))]
 pub fn list_fault(machines: u32, rows: &[u32]) -> Answer
     ensures { result ≡ list_fault machines rows.now }
 {

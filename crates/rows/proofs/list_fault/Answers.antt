@@ -12,16 +12,10 @@ returns-then-rows-ne0 c =
     ∙ broken_row c.args.machines c.args.rows.now c.count_fault-count.result c.count_fault-count.ensures c.if-count-ne0.false
     c.if-rows-ne0.true
 
-pub returns-then-rows-gt32 : goal.returns-then-rows-gt32
-returns-then-rows-gt32 c =
-    c.refuse-then-rows-gt32.ensures
-    ∙ many_rows c.args.machines c.args.rows.now c.count_fault-count.result c.count_fault-count.ensures c.if-count-ne0.false
-    c.if-rows-ne0.false (omega arith)
-
 pub rows_fault-requires : goal.rows_fault-requires
-rows_fault-requires c = few_rows c.args.rows.now c.if-rows-gt32.false
+rows_fault-requires c = few_rows c.args.rows.now (omega arith)
 
 pub returns : goal.returns
 returns c =
     rows_only c.args.machines c.args.rows.now c.count_fault-count.result c.count_fault-count.ensures c.if-count-ne0.false
-    c.if-rows-ne0.false c.if-rows-gt32.false c.rows_fault.result c.rows_fault.ensures
+    c.if-rows-ne0.false (omega arith) c.rows_fault.result c.rows_fault.ensures
