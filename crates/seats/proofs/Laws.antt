@@ -3,13 +3,11 @@ use Prim.Native.Nat.{ℕ, zero, suc, ◌+◌, ◌-◌, ◌≤◌, ◌<◌}
 use native.Mathlib.Omega.{arith}
 use native.Mathlib.Numerals.{add-one}
 use mathlib.Core.Path.{◌≡◌, refl, sym, ◌∙◌, ap, ap₂}
-use mathlib.Core.Logic.{◌≢◌}
 use mathlib.Core.Bool.{Bool, true, false, cond, ◌||◌}
 use mathlib.Core.List.{List, [], ◌∷◌, ◌++◌, append-nil, append_assoc}
 use lib.Dec.{ltb, eqb}
 use lib.ListN.{length, get_or, take, drop, set, replicate, length-append, length-drop, take-append-drop, replicate-append-replicate, get_or-append}
-use lib.Seq.{drop-cons, drop-length, set_at, take-suc, append_snoc, get_or_at, get_or-append-add, get_or-drop, get_or-take, length-take-le, take_all, take_at, take-append-add}
-use borrow.Author.Tests.{lt-ltb, le-ltb, eq-eqb, ne_eqb}
+use lib.Seq.{drop-cons, drop-length, set_at, take-suc, append_snoc, get_or_at, get_or-append-add, get_or-drop, length-take-le, take_all, take_at, take-append-add}
 use Rattle.promise.specs.declared.Held.{Held}
 use Rattle.promise.specs.declared.Desk.{Desk}
 use Rattle.promise.specs.Desk.{unused, table, desk_of}
@@ -17,38 +15,6 @@ use Rattle.promise.specs.DeskCalls.{is_held, seat_of, seated, without}
 use Rattle.promise.proofs.DeskSeats.{length_seated}
 use Rattle.seats.specs.declared.Found.TheVariants.{Nothing, At}
 use Rattle.seats.specs.Seats.{find_in, rank_in}
-
--- ---- the search, from index i on, among the first n
-
-module _ (n : ℕ) (l : List Held) (hn : n ≤ length l) where
-  from_here : (i : ℕ) (d : Held) → i < n → drop i (take n l) ≡ get_or l i d ∷ drop (suc i) (take n l)
-  from_here i d h =
-      drop-cons (take n l) i d (omega (arith, length-take-le n l hn))
-      ∙ ap (λ (g : Held). g ∷ drop (suc i) (take n l)) (get_or-take n l i d h)
-
-  past_all : (i : ℕ) → i ≡ n → drop i (take n l) ≡ []
-  past_all i e = ap (λ (k : ℕ). drop k (take n l)) (e ∙ sym (length-take-le n l hn)) ∙ drop-length (take n l)
-
-  module _ (number i : ℕ) where
-    pub find_here : (d : Held) → i < n → (get_or l i d).number ≡ number → find_in number i (drop i (take n l)) ≡ At i
-    find_here d h e = rw (from_here i d h, eq-eqb (get_or l i d).number number e) refl
-
-    pub find_later : (d : Held) → i < n → (get_or l i d).number ≢ number
-        → find_in number i (drop i (take n l)) ≡ find_in number (i + 1) (drop (i + 1) (take n l))
-    find_later d h e = rw (from_here i d h, ne_eqb (get_or l i d).number number e, add-one i) refl
-
-    pub find_nowhere : i ≡ n → find_in number i (drop i (take n l)) ≡ Nothing
-    find_nowhere e = ap (find_in number i) (past_all i e)
-
-    pub rank_here : (d : Held) → i < n → number < (get_or l i d).number → i + rank_in number (drop i (take n l)) ≡ i
-    rank_here d h e = rw (from_here i d h, lt-ltb number (get_or l i d).number e) (omega arith)
-
-    pub rank_later : (d : Held) → i < n → (get_or l i d).number ≤ number
-        → i + rank_in number (drop i (take n l)) ≡ i + 1 + rank_in number (drop (i + 1) (take n l))
-    rank_later d h e = rw (from_here i d h, le-ltb number (get_or l i d).number e, add-one i) (omega arith)
-
-    pub rank_end : i ≡ n → i + rank_in number (drop i (take n l)) ≡ n
-    rank_end e = rw (past_all i e) (omega arith)
 
 -- ---- a loop that writes the list r over the list l, index by index: i of them written
 
