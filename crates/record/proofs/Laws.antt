@@ -3,13 +3,9 @@ use Prim.Native.Nat.{ℕ, zero, suc, ◌+◌, ◌*◌, ◌-◌, ◌/◌, ◌%◌
 use native.Mathlib.Omega.{arith}
 use native.Mathlib.Numerals.{add-one}
 use mathlib.Core.Path.{◌≡◌, refl, sym, ◌∙◌, ap, ap₂}
-use mathlib.Core.Logic.{◌≢◌}
-use mathlib.Core.Bool.{cond}
 use mathlib.Core.List.{List, [], ◌∷◌, ◌++◌, map, flatten, append-nil, append_assoc}
-use lib.Dec.{eqb}
 use lib.ListN.{length, get_or, take, drop, set, length-append, length-set, drop_of_length-le}
 use lib.Seq.{drop-cons, drop_at, append_snoc, length-take-le, take-length, get_or-set_same, drop-set-lt}
-use borrow.Author.Tests.{eq-eqb, ne_eqb}
 use Rattle.figures.proofs.Tables.{drop_none}
 use Rattle.promise.specs.declared.Held.{Held}
 use Rattle.promise.specs.declared.Desk.{Desk}
@@ -123,9 +119,6 @@ desk_end desk out e l = over_end (desk_numbers desk) out (omega (arith, each_len
 
 -- ---- seats read downwards
 
-pub read_start : (bytes : List ℕ) (seats : List Held) → length seats ≡ 32 → drop 32 seats ≡ seats_from bytes 32 (32 - 32)
-read_start bytes seats e = drop_of_length-le seats {i = 32} (omega arith)
-
 pub read_step : (bytes : List ℕ) (i : ℕ) (seats : List Held) (h : Held) → i < 32 → length seats ≡ 32 → h ≡ seat_at bytes i
     → drop (suc i) seats ≡ seats_from bytes (suc i) (32 - suc i) → drop i (set seats i h) ≡ seats_from bytes i (32 - i)
 read_step bytes i seats h l e eh r =
@@ -140,11 +133,3 @@ unfolding desk_read
 read_end bytes desk i z m c r =
     let all : desk.seats ≡ seats_from bytes 0 32 = sym (drop_none desk.seats 0 refl) ∙ (rw z at r) in
     λ t. record { machines = m t; clock = c t; seats = all t }
-
--- ---- what a call leaves
-
-pub on_yes : (n : ℕ) (after made lent : List ℕ) → n ≡ 0 → after ≡ made → after ≡ cond (eqb n 0) made lent
-on_yes n after made lent z e = rw (eq-eqb n 0 z) e
-
-pub on_refusal : (n : ℕ) (made lent : List ℕ) → n ≢ 0 → lent ≡ cond (eqb n 0) made lent
-on_refusal n made lent h = rw (ne_eqb n 0 h) refl
