@@ -11,6 +11,7 @@ use promise::{Desk, Held};
 use walk::{Fit, Jobs};
 
 // A seat in use is as it must be; its number is looked at by the caller.
+#[tactic(auto, unfolding(promise::specs::DeskCalls::seat_ok))]
 fn seat_ok(h: Held, clock: u32) -> bool
     ensures { result ≡ seat_ok clock h }
 {
@@ -39,6 +40,7 @@ fn seat_ok(h: Held, clock: u32) -> bool
 }
 
 // The rest of it: bound, slots, and the admitted work within them.
+#[tactic(auto, unfolding(promise::specs::DeskCalls::seat_fits))]
 fn seat_fits(h: Held, clock: u32) -> bool
     requires { clock ≤ h.deadline }
     ensures { result ≡ seat_fits clock h }
@@ -61,6 +63,7 @@ fn seat_fits(h: Held, clock: u32) -> bool
     h.work <= h.bound * h.slots
 }
 
+#[tactic(auto, unfolding(promise::specs::DeskCalls::is_unused))]
 fn is_unused(h: Held) -> bool
     ensures { result ≡ is_unused h }
 {
@@ -124,6 +127,7 @@ fn seats_ok(desk: Desk) -> bool
 }
 
 // How many jobs are held: the seats before the first with number 0.
+#[tactic(auto, unfolding(promise::specs::Desk::held_of))]
 pub fn held_count(desk: Desk) -> usize
     ensures { result ≡ length (held_of desk) }
 {
@@ -176,6 +180,7 @@ fn fits(fit: Fit) -> bool
 }
 
 // The record is sound.
+#[tactic(auto, unfolding(promise::specs::DeskCalls::is_sound))]
 pub fn is_sound(desk: Desk) -> bool
     ensures { result ≡ is_sound desk }
 {
