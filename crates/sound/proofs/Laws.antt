@@ -2,13 +2,11 @@
 use Prim.Native.Nat.{ℕ, suc, ◌*◌, ◌-◌, ◌≤◌, ◌<◌}
 use native.Mathlib.Omega.{arith}
 use mathlib.Core.Path.{◌≡◌, refl, sym, ◌∙◌, ap, ap₂}
-use mathlib.Core.Logic.{◌≢◌}
 use mathlib.Core.Bool.{Bool, true, false, cond, ◌&&◌}
 use mathlib.Core.List.{List, [], ◌∷◌, map}
 use lib.Dec.{leb, ltb, eqb}
 use lib.ListN.{length, get_or, take, drop, set}
-use lib.Seq.{drop-cons, drop-length}
-use borrow.Author.Tests.{lt-ltb, le-ltb, le-leb, eq-eqb, ne_eqb, leb-true}
+use borrow.Author.Tests.{le-leb, leb-true}
 use Rattle.model.specs.Lists.{All}
 use Rattle.model.specs.Jobs as Model
 use Rattle.model.specs.Jobs.{width, counted}
@@ -18,7 +16,7 @@ use Rattle.model.proofs.Lists.{and_true}
 use Rattle.promise.specs.declared.Held.{Held}
 use Rattle.promise.specs.declared.Desk.{Desk}
 use Rattle.promise.specs.Desk.{in_use, held_of, as_planned, to_plan, jobs_for}
-use Rattle.promise.specs.DeskCalls.{seat_ok, seat_fits, is_unused, all_unused, seats_ok, none_short, is_sound}
+use Rattle.promise.specs.DeskCalls.{seat_ok, seat_fits, all_unused, seats_ok, none_short, is_sound}
 use Rattle.promise.proofs.DeskSeats.{held_first}
 use Rattle.figures.specs.declared.Job.{Job}
 use Rattle.figures.specs.Jobs.{as_job}
@@ -26,45 +24,6 @@ use Rattle.figures.proofs.Tables.{first_none, first_next, set_next, drop_none}
 use Rattle.walk.specs.declared.Jobs.{Jobs}
 use Rattle.walk.specs.declared.Fit.{Fit}
 use Rattle.walk.specs.Walk.{as_jobs, InRange, Small, as_short}
-
--- no seats after the last
-pub none_after : (l : List Held) (i : ℕ) → i ≡ length l → drop i l ≡ []
-none_after l i e = rw e (drop-length l)
-
--- one seat, at index i
-module _ (l : List Held) (i : ℕ) (d : Held) (hi : i < length l) where
-  here : drop i l ≡ get_or l i d ∷ drop (suc i) l
-  here = drop-cons l i d hi
-
-  module _ (b : Bool) (e : b ≡ is_unused (get_or l i d)) where
-    pub unused_on : b ≡ true → all_unused (drop i l) ≡ all_unused (drop (suc i) l)
-    unused_on t = ap all_unused here ∙ rw (← e, t) refl
-
-    pub unused_stop : b ≡ false → false ≡ all_unused (drop i l)
-    unused_stop t = sym (ap all_unused here ∙ rw (← e, t) refl)
-
-  pub held_end : (get_or l i d).number ≡ 0 → length (in_use (drop i l)) ≡ 0
-  held_end z = ap (λ (m : List Held). length (in_use m)) here ∙ rw (eq-eqb (get_or l i d).number 0 z) refl
-
-  pub held_on : (get_or l i d).number ≢ 0 → length (in_use (drop i l)) ≡ suc (length (in_use (drop (suc i) l)))
-  held_on z = ap (λ (m : List Held). length (in_use m)) here ∙ rw (ne_eqb (get_or l i d).number 0 z) refl
-
-  module _ (clock before : ℕ) where
-    pub seats_rest : (get_or l i d).number ≡ 0 → all_unused (drop i l) ≡ seats_ok clock before (drop i l)
-    seats_rest z = ap all_unused here ∙ sym (ap (seats_ok clock before) here ∙ rw (eq-eqb (get_or l i d).number 0 z) refl)
-
-    module _ (used : (get_or l i d).number ≢ 0) where
-      pub seats_low : (get_or l i d).number ≤ before → false ≡ seats_ok clock before (drop i l)
-      seats_low h = sym (ap (seats_ok clock before) here ∙ rw (ne_eqb (get_or l i d).number 0 used, le-ltb before (get_or l i d).number h) refl)
-
-      module _ (above : before < (get_or l i d).number) (b : Bool) (e : b ≡ seat_ok clock (get_or l i d)) where
-        pub seats_stop : b ≡ false → false ≡ seats_ok clock before (drop i l)
-        seats_stop t =
-            sym (ap (seats_ok clock before) here ∙ rw (ne_eqb (get_or l i d).number 0 used, lt-ltb before (get_or l i d).number above, ← e, t) refl)
-
-        pub seats_on : b ≡ true → seats_ok clock before (drop i l) ≡ seats_ok clock (get_or l i d).number (drop (suc i) l)
-        seats_on t =
-            ap (seats_ok clock before) here ∙ rw (ne_eqb (get_or l i d).number 0 used, lt-ltb before (get_or l i d).number above, ← e, t) refl
 
 -- the jobs of the first n seats, from seat i on
 abbrev pub Loaded : ℕ → ℕ → ℕ → List Held → ℕ → List Job → Type 0
