@@ -10,7 +10,7 @@ ghost use Rattle.jobfile.specs.Reader.{told_as, is_bad, line_end, starts_with, k
 use promise::{Answer, LineKind, Reading};
 
 // What a line tells.
-#[derive(Drop)]
+#[derive(Clone, Copy)]
 pub enum Judged {
     Bad,
     Label,
@@ -142,8 +142,8 @@ fn label_after(line: &[u8], key: &[u8]) -> Judged
 }
 
 // What a line tells where a line of this kind is due.
-fn judge(kind: LineKind, line: &[u8]) -> Judged
-    ensures { told_as result ≡ told_by kind line.now }
+fn judge(kind: &LineKind, line: &[u8]) -> Judged
+    ensures { told_as result ≡ told_by kind.now line.now }
 {
     match kind {
         LineKind::MachinesLine => number_after(line, b"machines="),
@@ -288,7 +288,7 @@ fn read_lines(bytes: &[u8]) -> Reading
         if bytes.len() <= end {
             return refused(13, line);
         }
-        let told = judge(kind, &bytes[at..end]);
+        let told = judge(&kind, &bytes[at..end]);
         if is_bad(told) {
             return refused(13, line);
         }
