@@ -6,45 +6,20 @@ use mathlib.Core.Path.{◌≡◌, refl, sym, ◌∙◌, ap}
 use mathlib.Core.Logic.{◌≢◌, ◌⊎◌, ⊎_elim}
 use mathlib.Core.Bool.{Bool, true, false, cond, ◌&&◌, and-false, or-true}
 use mathlib.Core.List.{List, [], ◌∷◌}
-use mathlib.Core.Option.{Option, some, none}
+use mathlib.Core.Option.{some, none}
 use lib.Dec.{leb, eqb}
 use lib.ListN.{length, get_or, take, drop, set, length-drop, drop_of_length-le}
-use lib.Seq.{drop-cons, set_out, take_all}
+use lib.Seq.{drop-cons, take_all}
 use borrow.Author.Tests.{leb-true, le-leb, lt-leb, eq-eqb, ne_eqb}
 use Rattle.model.proofs.Lists.{and_true}
 use Rattle.promise.specs.declared.LineKind.{LineKind}
-use Rattle.promise.specs.Texts.{all_within, is_number, is_label, value_from, read_number, newline}
+use Rattle.promise.specs.Texts.{all_within, is_number, is_label, value_from, read_number}
 use Rattle.promise.specs.JobFile.{after_key, number_told, label_told, not_read}
 use Rattle.promise.specs.Answers.{yes, refusal}
 use Rattle.jobfile.specs.declared.Kept.{Kept}
-use Rattle.jobfile.specs.Reader.{line_end, is_there, starts_with, keep_number, groups_in, may_end, finished}
+use Rattle.jobfile.specs.Reader.{is_there, starts_with, keep_number, groups_in, may_end, finished}
 
--- the end of a line, from index i on
-module _ (bytes : List ℕ) (i : ℕ) where
-  pub end_here : i < length bytes → get_or bytes i 0 ≡ newline → i ≡ line_end bytes i
-  end_here h e = rw (drop-cons bytes i 0 h, eq-eqb (get_or bytes i 0) newline e) (omega arith)
-
-  pub end_further : i < length bytes → get_or bytes i 0 ≢ newline → line_end bytes i ≡ line_end bytes (suc i)
-  end_further h e = rw (drop-cons bytes i 0 h, ne_eqb (get_or bytes i 0) newline e) (omega arith)
-
-  pub end_past : length bytes ≤ i → i ≡ line_end bytes i
-  end_past h = rw (drop_of_length-le bytes h) (omega arith)
-
--- a range of bytes, from index i on
-module _ (text : List ℕ) (least most i : ℕ) where
-  pub byte_low : i < length text → get_or text i 0 < least → false ≡ all_within least most (drop i text)
-  byte_low h l = rw (drop-cons text i 0 h, lt-leb least (get_or text i 0) l) refl
-
-  pub byte_high : i < length text → least ≤ get_or text i 0 → most < get_or text i 0 → false ≡ all_within least most (drop i text)
-  byte_high h l g = rw (drop-cons text i 0 h, le-leb least (get_or text i 0) l, lt-leb (get_or text i 0) most g) refl
-
-  pub byte_between : i < length text → least ≤ get_or text i 0 → get_or text i 0 ≤ most
-      → all_within least most (drop i text) ≡ all_within least most (drop (suc i) text)
-  byte_between h l g = rw (drop-cons text i 0 h, le-leb least (get_or text i 0) l, le-leb (get_or text i 0) most g) refl
-
-  pub bytes_past : length text ≤ i → true ≡ all_within least most (drop i text)
-  bytes_past h = rw (drop_of_length-le text h) refl
-
+-- each byte of a run of which every one is in a range
 pub within_at : (text : List ℕ) (least most i : ℕ) → all_within least most text ≡ true → i < length text → (least ≤ get_or text i 0) × (get_or text i 0 ≤ most)
 within_at [] least most i e h = absurd (omega arith)
 within_at (b ∷ text) least most zero e h =
@@ -58,29 +33,15 @@ module _ (text : List ℕ) (i v : ℕ) where
   pub value_step : i < length text → value_from v (drop i text) ≡ value_from (10 * v + (get_or text i 0 - 48)) (drop (suc i) text)
   value_step h = rw (drop-cons text i 0 h) refl
 
-  pub value_past : length text ≤ i → v ≡ value_from v (drop i text)
-  value_past h = rw (drop_of_length-le text h) refl
-
   pub value_small : (d : ℕ) → d ≤ 9 → v < 10 ^ i → 10 * v + d < 10 ^ suc i
   value_small d h l = omega (arith, pow-succ' 10 i)
 
 pub value_fits : (i v : ℕ) → i ≤ 7 → v < 10 ^ i → v < 10000000
 value_fits i v h l = omega (arith, pow-le-pow_right {n = 10} (omega arith) {i = i} {j = 7} h)
 
--- a key, from index i on
-module _ (line key : List ℕ) (i : ℕ) where
-  pub key_past : length key ≤ i → true ≡ starts_with (drop i key) (drop i line)
-  key_past h = rw (drop_of_length-le key h) refl
-
-  pub line_short : i < length key → length line ≤ i → false ≡ starts_with (drop i key) (drop i line)
-  line_short h g = rw (drop_of_length-le line g, drop-cons key i 0 h) refl
-
-  pub key_differs : i < length key → i < length line → get_or line i 0 ≢ get_or key i 0 → false ≡ starts_with (drop i key) (drop i line)
-  key_differs h g e = rw (drop-cons line i 0 g, drop-cons key i 0 h, ne_eqb (get_or line i 0) (get_or key i 0) e) refl
-
-  pub key_same : i < length key → i < length line → get_or line i 0 ≡ get_or key i 0
-      → starts_with (drop i key) (drop i line) ≡ starts_with (drop (suc i) key) (drop (suc i) line)
-  key_same h g e = rw (drop-cons line i 0 g, drop-cons key i 0 h, eq-eqb (get_or line i 0) (get_or key i 0) e) refl
+-- a line that ends before a key does
+pub line_short : (line key : List ℕ) (i : ℕ) → i < length key → length line ≤ i → false ≡ starts_with (drop i key) (drop i line)
+line_short line key i h g = rw (drop_of_length-le line g, drop-cons key i 0 h) refl
 
 -- what stands after a key
 key_after : (key line : List ℕ) → starts_with key line ≡ true → (length key ≤ length line) × (after_key key line ≡ some (drop (length key) line))
@@ -104,12 +65,7 @@ module _ (key line : List ℕ) (e : starts_with key line ≡ true) where
       ap some (take_all (length line - length key) (drop (length key) line) (omega (arith, length-drop (length key) line)))
       ∙ sym (key_after key line e).1
 
-pub key_missing : (key line : List ℕ) → starts_with key line ≡ false → after_key key line ≡ none
-key_missing key line e = go (after_key key line) e
-  where
-    go : (o : Option (List ℕ)) → is_there o ≡ false → o ≡ none
-    go none e = refl
-    go (some text) e = absurd (let z : ◌≡◌ {A = ℕ} 0 1 = cc in omega arith)
+pub ruleset key_laws = (key_fits, key_rest)
 
 -- a number, test by test
 module _ (text : List ℕ) where
@@ -141,6 +97,8 @@ module _ (text : List ℕ) where
       unfolding read_number
       number_other e = rw (digits_only, e) refl
 
+pub ruleset number_laws = (number_empty, number_long, number_zero, number_digits, number_other)
+
 -- a label, test by test
 module _ (text : List ℕ) where
   pub label_long : 24 < length text → none ≡ label_told text
@@ -156,17 +114,12 @@ module _ (text : List ℕ) where
     unfolding label_told is_label
     label_other e = rw (le-leb (length text) 24 high, e) refl
 
--- one number more
-module _ (k : Kept) (n : ℕ) where
-  pub keep_first : k.count ≡ 0 → record { machines = n; count = k.count + 1; rows = k.rows } ≡ keep_number k n
-  keep_first e = rw e refl
+pub ruleset label_laws = (label_long, label_printable, label_other)
 
-  module _ (h : k.count ≢ 0) where
-    pub keep_row : record { machines = k.machines; count = k.count + 1; rows = set k.rows (k.count - 1) n } ≡ keep_number k n
-    keep_row = rw (ne_eqb k.count 0 h) refl
-
-    pub keep_past : length k.rows ≤ k.count - 1 → record { machines = k.machines; count = k.count + 1; rows = k.rows } ≡ keep_number k n
-    keep_past g = rw (ne_eqb k.count 0 h, set_out k.rows (k.count - 1) n g) refl
+-- one number more, for the rows
+pub keep_row : (k : Kept) (n : ℕ) → k.count ≢ 0
+    → record { machines = k.machines; count = k.count + 1; rows = set k.rows (k.count - 1) n } ≡ keep_number k n
+keep_row k n h = rw (ne_eqb k.count 0 h) refl
 
 -- the end of the bytes
 module _ (kind : LineKind) (ℓ : ℕ) (k : Kept) where
@@ -178,3 +131,5 @@ module _ (kind : LineKind) (ℓ : ℕ) (k : Kept) where
   pub finish_short : may_end kind ≡ false → not_read (refusal 13 ℓ 0) ≡ finished kind ℓ k
   unfolding finished
   finish_short e = rw e refl
+
+pub ruleset finish_laws = (finish_read, finish_short)

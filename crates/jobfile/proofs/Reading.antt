@@ -2,7 +2,6 @@
 use Prim.Native.Nat.{ℕ, zero, suc, ◌+◌, ◌-◌, ◌≤◌, ◌<◌}
 use native.Mathlib.Nat.{suc-sub-suc}
 use native.Mathlib.Numerals.{add-one}
-use native.Mathlib.Decide.{dec_lt}
 use native.Mathlib.Omega.{arith}
 use mathlib.Core.Path.{◌≡◌, refl, sym, ◌∙◌, ap, subst}
 use mathlib.Core.Bool.{Bool, true, false, cond}
@@ -10,7 +9,7 @@ use mathlib.Core.List.{List, [], ◌∷◌, ◌++◌, append_assoc, append-nil}
 use mathlib.Core.Option.{some}
 use lib.Dec.{eqb}
 use lib.ListN.{length, get_or, take, drop, set, replicate, length-append, length-drop, drop_of_length-le}
-use lib.Seq.{drop-cons, take_all, drop-drop}
+use lib.Seq.{take_all, drop-drop}
 use borrow.Author.Tests.{eqb-true, eqb-false, lt-ltb, le-ltb}
 use Rattle.promise.specs.declared.LineKind.{LineKind}
 use Rattle.promise.specs.declared.LineKind.TheVariants.{MachinesLine, JobLine, WorkLine, DeadlineLine, BoundLine, LabelLine}
@@ -83,7 +82,7 @@ put_heard ns Label ℓ (says more) e = refl
 put_heard ns (Number n) ℓ (bad m) e = refl
 put_heard ns (Number n) ℓ (says more) e = ap says (sym (append_assoc ns (n ∷ []) more))
 
-put_bad : (ns : List ℕ) (j : Judged) (ℓ : ℕ) (s : Said) → is_bad j ≡ true → put ns (and_then (told_as j) ℓ s) ≡ bad ℓ
+pub put_bad : (ns : List ℕ) (j : Judged) (ℓ : ℕ) (s : Said) → is_bad j ≡ true → put ns (and_then (told_as j) ℓ s) ≡ bad ℓ
 put_bad ns Bad ℓ s e = refl
 put_bad ns Label ℓ s e = absurd (let z : ◌≡◌ {A = ℕ} 0 1 = cc in omega arith)
 put_bad ns (Number n) ℓ s e = absurd (let z : ◌≡◌ {A = ℕ} 0 1 = cc in omega arith)
@@ -93,7 +92,7 @@ put_none (bad ℓ) = refl
 put_none (says more) = refl
 
 -- the end of the bytes, with nothing after the last newline and with something
-end_said : (ns : List ℕ) (kind : LineKind) (ℓ : ℕ) → finished kind ℓ (kept_of ns) ≡ reading_said (put ns (at_end kind ℓ []))
+pub end_said : (ns : List ℕ) (kind : LineKind) (ℓ : ℕ) → finished kind ℓ (kept_of ns) ≡ reading_said (put ns (at_end kind ℓ []))
 unfolding finished kept_of reading_from
 end_said ns JobLine ℓ = rw (append-nil ns) refl
 end_said ns MachinesLine ℓ = refl
@@ -102,7 +101,7 @@ end_said ns DeadlineLine ℓ = refl
 end_said ns BoundLine ℓ = refl
 end_said ns LabelLine ℓ = refl
 
-rest_bad : (kind : LineKind) (ℓ b : ℕ) (rest : List ℕ) → at_end kind ℓ (b ∷ rest) ≡ bad ℓ
+pub rest_bad : (kind : LineKind) (ℓ b : ℕ) (rest : List ℕ) → at_end kind ℓ (b ∷ rest) ≡ bad ℓ
 rest_bad JobLine ℓ b rest = refl
 rest_bad MachinesLine ℓ b rest = refl
 rest_bad WorkLine ℓ b rest = refl
@@ -131,7 +130,7 @@ line_whole (b ∷ l) h = go (eqb b newline) refl h (line_whole l)
 
 -- the line that begins at an index, and ends at e
 module _ (bytes : List ℕ) (at e : ℕ) (he : e ≡ line_end bytes at) where
-  line_cut : e < length bytes
+  pub line_cut : e < length bytes
       → cut (drop at bytes) ≡ record { whole = take (e - at) (drop at bytes) ∷ (cut (drop (e + 1) bytes)).whole; rest = (cut (drop (e + 1) bytes)).rest }
   line_cut h =
       let n : e - at ≡ line_length (drop at bytes) = omega arith in
@@ -140,10 +139,15 @@ module _ (bytes : List ℕ) (at e : ℕ) (he : e ≡ line_end bytes at) where
       ∙ rw (n, m, ← drop-drop (suc (line_length (drop at bytes))) at bytes)
       (cut_line (take (line_length (drop at bytes)) (drop at bytes)) (drop (suc (line_length (drop at bytes))) (drop at bytes)) (line_one (drop at bytes)))
 
-  line_unended : length bytes ≤ e → cut (drop at bytes) ≡ record { whole = []; rest = drop at bytes }
-  line_unended h =
-      cut_rest (drop at bytes)
-      (subst OneLine (take_all (line_length (drop at bytes)) (drop at bytes) (omega (arith, length-drop at bytes))) (line_one (drop at bytes)))
+-- bytes with no newline from an index on
+pub line_unended : (bytes : List ℕ) (at : ℕ) → length bytes ≤ line_end bytes at → cut (drop at bytes) ≡ record { whole = []; rest = drop at bytes }
+line_unended bytes at h =
+    cut_rest (drop at bytes)
+    (subst OneLine (take_all (line_length (drop at bytes)) (drop at bytes) (omega (arith, length-drop at bytes))) (line_one (drop at bytes)))
+
+-- the end of the bytes
+pub line_none : (bytes : List ℕ) (at : ℕ) → length bytes ≤ at → cut (drop at bytes) ≡ record { whole = []; rest = [] }
+line_none bytes at h = rw (drop_of_length-le bytes h) refl
 
 -- what was kept and what is still to be read, at line ℓ
 pub record Reads (bytes : List ℕ) (kept : Kept) (kind : LineKind) (ℓ at : ℕ) : Type 0 where
@@ -155,40 +159,20 @@ pub read_start : (bytes : List ℕ) → Reads bytes (record { machines = 0; coun
 unfolding kept_of padded file_says
 read_start bytes = record { numbers = []; are = refl; so_far = put_none (lines_in MachinesLine 1 (cut bytes)) }
 
-module _ (bytes : List ℕ) (kept : Kept) (kind : LineKind) (ℓ at : ℕ) (now : Reads bytes kept kind ℓ at) where
-  pub read_end : length bytes ≤ at → finished kind ℓ kept ≡ reading_said (file_says bytes)
-  read_end h =
-      ap (finished kind ℓ) now.are
-      ∙ end_said now.numbers kind ℓ
-      ∙ sym (ap reading_said (now.so_far ∙ ap (λ (l : List ℕ). put now.numbers (lines_in kind ℓ (cut l))) (drop_of_length-le bytes h)))
+-- a good line that ends at e: what is kept after it
+module _ (bytes : List ℕ) (kept : Kept) (kind : LineKind) (ℓ at : ℕ) (now : Reads bytes kept kind ℓ at) (e : ℕ) (he : e ≡ line_end bytes at) (j : Judged)
+    (hj : told_as j ≡ told_by kind (take (e - at) (drop at bytes))) where
+  one_line : e < length bytes → file_says bytes ≡ put now.numbers (and_then (told_as j) ℓ (lines_in (following kind) (suc ℓ) (cut (drop (e + 1) bytes))))
+  one_line h = rw hj (now.so_far ∙ ap (λ (c : Lines). put now.numbers (lines_in kind ℓ c)) (line_cut bytes at e he h))
 
-  module _ (l : at < length bytes) (e : ℕ) (he : e ≡ line_end bytes at) where
-    pub read_unended : length bytes ≤ e → not_read (refusal 13 ℓ 0) ≡ reading_said (file_says bytes)
-    read_unended h =
-        sym
-        (ap reading_said
-        (now.so_far
-        ∙ ap (λ (c : Lines). put now.numbers (lines_in kind ℓ c)) (line_unended bytes at e he h)
-        ∙ ap (λ (l : List ℕ). put now.numbers (at_end kind ℓ l)) (drop-cons bytes at 0 l)
-        ∙ ap (put now.numbers) (rest_bad kind ℓ (get_or bytes at 0) (drop (suc at) bytes))))
+  pub read_line : e < length bytes → is_bad j ≡ false → Reads bytes (keep_in kept j) (following kind) (ℓ + 1) (e + 1)
+  read_line h b = record {
+    numbers = heard now.numbers j;
+    are = ap (λ (k : Kept). keep_in k j) now.are ∙ keep_heard now.numbers j;
+    so_far = rw (add-one ℓ) (one_line h ∙ put_heard now.numbers j ℓ (lines_in (following kind) (suc ℓ) (cut (drop (e + 1) bytes))) b);
+  }
 
-    module _ (j : Judged) (hj : told_as j ≡ told_by kind (take (e - at) (drop at bytes))) where
-      one_line : e < length bytes → file_says bytes ≡ put now.numbers (and_then (told_as j) ℓ (lines_in (following kind) (suc ℓ) (cut (drop (e + 1) bytes))))
-      one_line h = rw hj (now.so_far ∙ ap (λ (c : Lines). put now.numbers (lines_in kind ℓ c)) (line_cut bytes at e he h))
-
-      pub read_bad : is_bad j ≡ true → not_read (refusal 13 ℓ 0) ≡ reading_said (file_says bytes)
-      read_bad b = go (dec_lt e (length bytes))
-        where
-          go : Dec (e < length bytes) → not_read (refusal 13 ℓ 0) ≡ reading_said (file_says bytes)
-          go (yes h) = sym (ap reading_said (one_line h ∙ put_bad now.numbers j ℓ (lines_in (following kind) (suc ℓ) (cut (drop (e + 1) bytes))) b))
-          go (no h) = read_unended (omega arith)
-
-      pub read_line : e < length bytes → is_bad j ≡ false → Reads bytes (keep_in kept j) (following kind) (ℓ + 1) (e + 1)
-      read_line h b = record {
-        numbers = heard now.numbers j;
-        are = ap (λ (k : Kept). keep_in k j) now.are ∙ keep_heard now.numbers j;
-        so_far = rw (add-one ℓ) (one_line h ∙ put_heard now.numbers j ℓ (lines_in (following kind) (suc ℓ) (cut (drop (e + 1) bytes))) b);
-      }
+pub ruleset line_laws = (keep_count, line_cut, line_unended, line_none, put_bad, rest_bad, end_said, read_line)
 
 -- 14 before 13
 module _ (bytes : List ℕ) where
@@ -199,3 +183,5 @@ module _ (bytes : List ℕ) where
   pub file_fits : length bytes ≤ 4096 → reading_said (file_says bytes) ≡ reading_of bytes
   unfolding reading_of
   file_fits h = rw (le-ltb 4096 (length bytes) h) refl
+
+pub ruleset file_laws = (file_long, file_fits)

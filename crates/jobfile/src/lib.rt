@@ -72,6 +72,7 @@ fn value_of(text: &[u8]) -> u32
 }
 
 // 1 to 7 digits, with no leading zero but the single digit 0.
+#[tactic(auto, using(crate::proofs::Laws::number_laws))]
 fn number_of(text: &[u8]) -> Judged
     ensures { told_as result ≡ number_told (read_number text.now) }
 {
@@ -93,6 +94,7 @@ fn number_of(text: &[u8]) -> Judged
 }
 
 // 0 to 24 bytes that can be printed.
+#[tactic(auto, using(crate::proofs::Laws::label_laws))]
 fn label_of(text: &[u8]) -> Judged
     ensures { told_as result ≡ label_told text.now }
 {
@@ -105,6 +107,7 @@ fn label_of(text: &[u8]) -> Judged
     Judged::Bad
 }
 
+#[tactic(auto, using(crate::proofs::Laws::line_short))]
 fn starts(line: &[u8], key: &[u8]) -> bool
     ensures { result ≡ starts_with key.now line.now }
 {
@@ -121,6 +124,7 @@ fn starts(line: &[u8], key: &[u8]) -> bool
     true
 }
 
+#[tactic(auto, using(crate::proofs::Laws::key_laws))]
 fn number_after(line: &[u8], key: &[u8]) -> Judged
     ensures { told_as result ≡ number_after (after_key key.now line.now) }
 {
@@ -131,6 +135,7 @@ fn number_after(line: &[u8], key: &[u8]) -> Judged
     Judged::Bad
 }
 
+#[tactic(auto, using(crate::proofs::Laws::key_laws))]
 fn label_after(line: &[u8], key: &[u8]) -> Judged
     ensures { told_as result ≡ label_after (after_key key.now line.now) }
 {
@@ -142,6 +147,7 @@ fn label_after(line: &[u8], key: &[u8]) -> Judged
 }
 
 // What a line tells where a line of this kind is due.
+#[tactic(auto, unfolding(promise::specs::JobFile::told_by))]
 fn judge(kind: &LineKind, line: &[u8]) -> Judged
     ensures { told_as result ≡ told_by kind.now line.now }
 {
@@ -220,6 +226,7 @@ fn groups_of(count: u32) -> u32
     (count - 1) / 4
 }
 
+#[tactic(auto, unfolding(promise::specs::JobFile::not_read))]
 fn refused(number: u32, line: u32) -> Reading
     ensures { result ≡ not_read (refusal number line 0) }
 {
@@ -250,6 +257,7 @@ fn may_end(kind: LineKind) -> bool
     }
 }
 
+#[tactic(auto, using(crate::proofs::Laws::finish_laws))]
 fn finish(kind: LineKind, line: u32, kept: Kept) -> Reading
     ensures { result ≡ finished kind line kept }
 {
@@ -271,6 +279,7 @@ fn finish(kind: LineKind, line: u32, kept: Kept) -> Reading
 }
 
 // Line by line; bytes that end before their line does are bad at it.
+#[tactic(auto, using(crate::proofs::Reading::line_laws))]
 fn read_lines(bytes: &[u8]) -> Reading
     requires { length bytes.now ≤ 4096 }
     ensures { result ≡ reading_said (file_says bytes.now) }
@@ -301,6 +310,7 @@ fn read_lines(bytes: &[u8]) -> Reading
 }
 
 // 14 comes first, whatever the lines are.
+#[tactic(auto, using(crate::proofs::Reading::file_laws))]
 pub fn read(bytes: &[u8]) -> Reading
     ensures { ReadingPromise bytes.now result }
 {
