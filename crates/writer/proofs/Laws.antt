@@ -1,5 +1,5 @@
 -- Texts put one after the other into lent bytes, and the texts of numbers, refusals and slots piece by piece.
-use Prim.Native.Nat.{ℕ, zero, suc, ◌+◌, ◌-◌, ◌/◌, ◌%◌, ◌^◌, ◌≤◌, ◌<◌}
+use Prim.Native.Nat.{ℕ, suc, ◌+◌, ◌-◌, ◌/◌, ◌%◌, ◌^◌, ◌≤◌, ◌<◌}
 use native.Mathlib.Nat.{pow-succ', one-le-pow, mul-div_cancel_left}
 use native.Mathlib.Numerals.{add-one}
 use native.Mathlib.Omega.{arith}
@@ -7,7 +7,7 @@ use mathlib.Core.Path.{◌≡◌, refl, sym, ◌∙◌, ap, ap₂}
 use mathlib.Core.Bool.{Bool, true, false, cond, ◌||◌}
 use mathlib.Core.List.{List, [], ◌∷◌, ◌++◌, append_assoc}
 use lib.Dec.{ltb}
-use lib.ListN.{length, get_or, drop, set, length-set, length-append, drop_of_length-le}
+use lib.ListN.{length, get_or, drop, set, length-set, length-append}
 use lib.Seq.{drop-cons}
 use borrow.Author.Tests.{lt-ltb, le-ltb}
 use Rattle.promise.specs.declared.Answer.{Answer}
@@ -79,13 +79,6 @@ pub back_fits : {text before middle : List ℕ} {at mid : ℕ} (more : List ℕ)
 back_fits {text} {before} {middle} {at} {mid} more w h =
     omega (arith, w.counted, length-append text more, ap (λ (o : List ℕ). length o) w.written, put_length at text before)
 
--- a text byte by byte
-pub next_byte : (text : List ℕ) (i : ℕ) → i < length text → drop i text ≡ (get_or text i 0 ∷ []) ++ drop (i + 1) text
-next_byte text i l = rw (add-one i) (drop-cons text i 0 l)
-
-pub no_byte : (text : List ℕ) (i : ℕ) → length text ≤ i → drop i text ≡ []
-no_byte text i l = drop_of_length-le text l
-
 -- the digit at a power of ten
 pub no_digit : (n power : ℕ) → n < power → digit_at n power ≡ []
 unfolding digit_at
@@ -124,10 +117,6 @@ module _ (k n power : ℕ) (some_left : 0 < k) (e : power ≡ 10 ^ k) where
   pub power_less : power / 10 ≡ 10 ^ (k - 1)
   power_less = ap (λ (p : ℕ). p / 10) (at_next ∙ pow-succ' 10 (k - 1)) ∙ mul-div_cancel_left (10 ^ (k - 1)) (omega arith)
 
-pub ones : (k n : ℕ) → k ≤ 0 → digits_from k n ≡ ((48 + n % 10) ∷ []) ++ []
-ones zero n z = refl
-ones (suc k) n z = absurd (omega arith)
-
 -- a refusal line by line
 line_first : (l : List ℕ) (ls : List (List ℕ)) → ended (l ∷ ls) ≡ (l ++ (newline ∷ [])) ++ ended ls
 line_first l ls = sym (append_assoc l (newline ∷ []) (ended ls))
@@ -155,14 +144,6 @@ slot_after some t machines h e = rw (lt-ltb 0 machines (omega arith), e) refl
 pub slot_first : (some : Bool) (t machines : ℕ) → ¬ (machines ≡ 0) → some ≡ false → slot_text some t machines ≡ pair_text t machines
 unfolding slot_text
 slot_first some t machines h e = rw (lt-ltb 0 machines (omega arith), e) refl
-
-pub some_now : (some : Bool) (machines : ℕ) → 0 < machines → true ≡ some || ltb 0 machines
-some_now true machines h = refl
-some_now false machines h = rw (lt-ltb 0 machines h) refl
-
-pub some_still : (some : Bool) (machines : ℕ) → machines ≤ 0 → some ≡ some || ltb 0 machines
-some_still true machines h = refl
-some_still false machines h = rw (le-ltb 0 machines h) refl
 
 -- the slots of a run line
 slots_after : (t : ℕ) (ms : List ℕ) → slots_text true t ms ≡ each_after_comma (pairs_from t ms)
@@ -195,6 +176,3 @@ run_slots ms = ap (λ (pairs : List ℕ). (ascii "run=" ++ pairs) ++ (newline �
 pub next_slot : (some after : Bool) (ms : List ℕ) (i : ℕ) → i < length ms → after ≡ some || ltb 0 (get_or ms i 0)
     → slots_text some (i + 1) (drop i ms) ≡ slot_text some (i + 1) (get_or ms i 0) ++ slots_text after (i + 1 + 1) (drop (i + 1) ms)
 next_slot some after ms i l e = rw (e, drop-cons ms i 0 l, add-one i, add-one (suc i)) refl
-
-pub last_slot : (some : Bool) (t : ℕ) (ms : List ℕ) (i : ℕ) → length ms ≤ i → slots_text some t (drop i ms) ≡ []
-last_slot some t ms i l = rw (drop_of_length-le ms l) refl
