@@ -9,7 +9,6 @@ use mathlib.Core.List.{List, [], ◌∷◌, ◌++◌, append_assoc}
 use lib.Dec.{ltb}
 use lib.ListN.{length, get_or, drop, set, length-set, length-append}
 use lib.Seq.{drop-cons}
-use borrow.Author.Tests.{lt-ltb, le-ltb}
 use Rattle.promise.specs.declared.Answer.{Answer}
 use Rattle.promise.specs.Texts.{ascii, digits_from, decimal, newline, ended}
 use Rattle.promise.specs.PlanText.{refusal_text, pair_text, pairs_from, each_after_comma, with_commas, run_line}
@@ -27,9 +26,6 @@ put_append at (b ∷ text) more bytes =
 
 pub nothing : {at : ℕ} {bytes : List ℕ} → Writes [] at bytes at bytes
 nothing {at} {bytes} = record { written = refl; counted = omega arith }
-
-pub one_byte : {at b : ℕ} {bytes after : List ℕ} → after ≡ set bytes at b → Writes (b ∷ []) at bytes (at + 1) after
-one_byte e = record { written = e; counted = refl }
 
 -- The writing of a text under way: `rest` is what is still to be put, at index `end` of the bytes as they are now.
 pub record Left (text : List ℕ) (at : ℕ) (before rest : List ℕ) (end : ℕ) (out : List ℕ) : Type 0 where
@@ -79,15 +75,6 @@ pub back_fits : {text before middle : List ℕ} {at mid : ℕ} (more : List ℕ)
 back_fits {text} {before} {middle} {at} {mid} more w h =
     omega (arith, w.counted, length-append text more, ap (λ (o : List ℕ). length o) w.written, put_length at text before)
 
--- the digit at a power of ten
-pub no_digit : (n power : ℕ) → n < power → digit_at n power ≡ []
-unfolding digit_at
-no_digit n power l = rw (lt-ltb n power l) refl
-
-pub a_digit : (n power : ℕ) → power ≤ n → digit_at n power ≡ (48 + n / power % 10) ∷ []
-unfolding digit_at
-a_digit n power l = rw (le-ltb n power l) refl
-
 digits_split : (k n : ℕ) → digits_from (suc k) n ≡ digit_at n (10 ^ suc k) ++ digits_from k n
 unfolding digit_at
 digits_split k n = go (ltb n (10 ^ suc k))
@@ -131,19 +118,6 @@ refusal_lines a =
     let amount = ascii "amount=" ++ decimal a.amount in
     ap (λ (more : List ℕ). ascii "result=refused\n" ++ more)
     (sym (line_first code (at ∷ amount ∷ []) ∙ ap (λ (more : List ℕ). (code ++ (newline ∷ [])) ++ more) (line_first at (amount ∷ []))))
-
--- a slot of a run line
-pub no_slot : (some : Bool) (t machines : ℕ) → machines ≡ 0 → slot_text some t machines ≡ []
-unfolding slot_text
-no_slot some t machines e = rw e refl
-
-pub slot_after : (some : Bool) (t machines : ℕ) → ¬ (machines ≡ 0) → some ≡ true → slot_text some t machines ≡ ascii "," ++ pair_text t machines
-unfolding slot_text
-slot_after some t machines h e = rw (lt-ltb 0 machines (omega arith), e) refl
-
-pub slot_first : (some : Bool) (t machines : ℕ) → ¬ (machines ≡ 0) → some ≡ false → slot_text some t machines ≡ pair_text t machines
-unfolding slot_text
-slot_first some t machines h e = rw (lt-ltb 0 machines (omega arith), e) refl
 
 -- the slots of a run line
 slots_after : (t : ℕ) (ms : List ℕ) → slots_text true t ms ≡ each_after_comma (pairs_from t ms)

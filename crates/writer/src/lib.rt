@@ -29,6 +29,7 @@ pub fn write(out: &mut [u8], at: usize, text: &[u8]) -> usize
 }
 
 // The digit of n at a power of ten; nothing if n does not reach it.
+#[tactic(auto, unfolding(crate::specs::Writing::digit_at))]
 fn write_digit(out: &mut [u8], at: usize, n: u32, power: u32) -> usize
     requires { (1 ≤ power) × (at + length (digit_at n power) ≤ length out.old) }
     ensures { Writes (digit_at n power) at out.old result out.new }
@@ -66,6 +67,7 @@ pub fn write_line(out: &mut [u8], at: usize, key: &[u8], n: u32) -> usize
     write(&mut *out, told, b"\n")
 }
 
+#[tactic(auto, unfolding(promise::specs::PlanText::refusal_text))]
 pub fn write_refusal(out: &mut [u8], at: usize, answer: Answer) -> usize
     requires { at + length (refusal_text answer) ≤ length out.old }
     ensures { Writes (refusal_text answer) at out.old result out.new }
@@ -76,6 +78,7 @@ pub fn write_refusal(out: &mut [u8], at: usize, answer: Answer) -> usize
     write_line(&mut *out, place, b"amount=", answer.amount)
 }
 
+#[tactic(auto, unfolding(promise::specs::PlanText::pair_text))]
 fn write_pair(out: &mut [u8], at: usize, t: u32, machines: u32) -> usize
     requires { at + length (pair_text t machines) ≤ length out.old }
     ensures { Writes (pair_text t machines) at out.old result out.new }
@@ -86,6 +89,7 @@ fn write_pair(out: &mut [u8], at: usize, t: u32, machines: u32) -> usize
 }
 
 // One slot of a run line; `some`: a pair stands before it.
+#[tactic(auto, unfolding(crate::specs::Writing::slot_text))]
 fn write_slot(out: &mut [u8], at: usize, some: bool, t: u32, machines: u32) -> usize
     requires { at + length (slot_text some t machines) ≤ length out.old }
     ensures { Writes (slot_text some t machines) at out.old result out.new }
