@@ -148,8 +148,8 @@ fn label_after(line: &[u8], key: &[u8]) -> Judged
 
 // What a line tells where a line of this kind is due.
 #[tactic(auto, unfolding(promise::specs::JobFile::told_by))]
-fn judge(kind: &LineKind, line: &[u8]) -> Judged
-    ensures { told_as result ≡ told_by kind.now line.now }
+fn judge(kind: LineKind, line: &[u8]) -> Judged
+    ensures { told_as result ≡ told_by kind line.now }
 {
     match kind {
         LineKind::MachinesLine => number_after(line, b"machines="),
@@ -297,7 +297,7 @@ fn read_lines(bytes: &[u8]) -> Reading
         if bytes.len() <= end {
             return refused(13, line);
         }
-        let told = judge(&kind, &bytes[at..end]);
+        let told = judge(kind, &bytes[at..end]);
         if is_bad(told) {
             return refused(13, line);
         }
