@@ -4,7 +4,6 @@ use native.Mathlib.Omega.{arith}
 use mathlib.Core.Path.{◌≡◌, refl, sym, ◌∙◌, ap}
 use mathlib.Core.List.{List, [], ◌∷◌, map}
 use lib.ListN.{length, get_or, take, drop, set}
-use Rattle.model.specs.Jobs as Jobs
 use Rattle.model.specs.Rule as Model
 use Rattle.model.specs.Rule.{fresh, fill}
 use Rattle.model.proofs.Lists.{All-both, All-over}
