@@ -1,4 +1,4 @@
--- The first_column law: with slot 1 of any valid schedule done, the rest of that schedule is valid for what is left.
+-- The first-column law: with slot 1 of any valid schedule done, the rest of that schedule is valid for what is left.
 use Prim.Native.Nat.{ℕ, zero, suc, ◌+◌, ◌-◌, ◌≤◌, ◌<◌}
 use native.Mathlib.Omega.{arith}
 use mathlib.Core.Path.{◌≡◌, refl}

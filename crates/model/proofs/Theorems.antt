@@ -70,7 +70,7 @@ order_plays_no_part = Order.order_plays_no_part
 pub rows_are_the_plan : RowsAreThePlan
 rows_are_the_plan = Rows.rows_are_the_plan
 
--- the first_column law
+-- the first-column law
 pub first_column_leaves_room : FirstColumnLeavesRoom
 first_column_leaves_room = FirstColumn.first_column_leaves_room
 

@@ -87,7 +87,7 @@ RowsAreThePlan =
     (C : ℕ) (jobs : List Job) → Distinct (numbers jobs) → All (λ j. j.deadline ≤ 168) jobs
     → plan_rows C jobs ≡ map (λ j. span 1 168 (plan C jobs j.number)) jobs
 
--- the first_column law: slot 1 of any valid schedule leaves jobs that the rest of that schedule finishes, none of them late
+-- the first-column law: slot 1 of any valid schedule leaves jobs that the rest of that schedule finishes, none of them late
 abbrev pub FirstColumnLeavesRoom : Type 0
 FirstColumnLeavesRoom =
     (count : ℕ → ℕ) (jobs : List Job) (y : ℕ → ℕ → ℕ) → ValidIn count jobs y

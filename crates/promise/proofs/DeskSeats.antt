@@ -234,7 +234,7 @@ after_to_plan machines clock given (h ∷ hs) = go (leb h.left (given h.number))
     go true e = e
     go false e = rw (later h.deadline) (ap₂ ◌∷◌ refl e)
 
--- what the first_column law says of the deadlines, read back on the seats
+-- what the first-column law says of the deadlines, read back on the seats
 pub to_plan_due : (machines clock : ℕ) (hs : List Held) → All (λ j. 1 ≤ j.deadline) (to_plan machines clock hs) → All (λ h. 1 ≤ h.deadline - clock) hs
 unfolding to_plan counted as_planned
 to_plan_due machines clock [] d = tt
