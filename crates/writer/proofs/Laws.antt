@@ -75,6 +75,7 @@ pub back_fits : {text before middle : List ℕ} {at mid : ℕ} (more : List ℕ)
 back_fits {text} {before} {middle} {at} {mid} more w h =
     omega (arith, w.counted, length-append text more, ap (λ (o : List ℕ). length o) w.written, put_length at text before)
 
+-- the places from 10 ^ suc k down: its digit, then the places below it
 digits_split : (k n : ℕ) → digits_from (suc k) n ≡ digit_at n (10 ^ suc k) ++ digits_from k n
 unfolding digit_at
 digits_split k n = go (ltb n (10 ^ suc k))
