@@ -15,22 +15,25 @@ use Rattle.model.specs.Claims.{ZeroIsShort, BoundariesSuffice}
 use Rattle.model.proofs.Lists.{total_le, All-map, All-mem, le_sum}
 use Rattle.model.proofs.Signed.{enough_room, room_forced, short_room, room_over}
 
+-- D less k for each slot from a on to d, as a moves, bends upwards only, but at d itself
+bends : (D k d a : ℕ) → d ≢ suc a → 2 * (D - k * (d - suc a)) ≤ (D - k * (d - a)) + (D - k * (d - suc (suc a)))
+bends D k d a h = go (dec_le d a)
+  where
+    go : Dec (d ≤ a) → 2 * (D - k * (d - suc a)) ≤ (D - k * (d - a)) + (D - k * (d - suc (suc a)))
+    go (yes l) =
+        let e₀ : d - a ≡ 0 = omega arith in
+        let e₁ : d - suc a ≡ 0 = omega arith in
+        let e₂ : d - suc (suc a) ≡ 0 = omega arith in
+        rw (e₀, e₁, e₂) (omega arith)
+    go (no l) =
+        let e₁ : d - suc a ≡ suc (d - suc (suc a)) = omega arith in
+        let e₀ : d - a ≡ suc (suc (d - suc (suc a))) = omega arith in
+        rw (e₀, e₁) (omega arith)
+
 -- between deadlines the forced work of a job bends upwards only
 convex : (a : ℕ) (j : Job) → j.deadline ≢ suc a → 2 * forced_of (suc a) j ≤ forced_of a j + forced_of (suc (suc a)) j
 unfolding forced_of
-convex a j h = go (dec_le j.deadline a)
-  where
-    go : Dec (j.deadline ≤ a)
-        → 2 * (j.work - j.bound * (j.deadline - suc a)) ≤ (j.work - j.bound * (j.deadline - a)) + (j.work - j.bound * (j.deadline - suc (suc a)))
-    go (yes l) =
-        let e₀ : j.deadline - a ≡ 0 = omega arith in
-        let e₁ : j.deadline - suc a ≡ 0 = omega arith in
-        let e₂ : j.deadline - suc (suc a) ≡ 0 = omega arith in
-        rw (e₀, e₁, e₂) (omega arith)
-    go (no l) =
-        let e₁ : j.deadline - suc a ≡ suc (j.deadline - suc (suc a)) = omega arith in
-        let e₀ : j.deadline - a ≡ suc (suc (j.deadline - suc (suc a))) = omega arith in
-        rw (e₀, e₁) (omega arith)
+convex a j h = bends _ _ _ a h
 
 -- from a deadline on the forced work of a job stands still
 still : (b : ℕ) (j : Job) → j.deadline ≤ b → forced_of (suc b) j ≤ forced_of b j
