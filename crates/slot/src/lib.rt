@@ -53,6 +53,7 @@ pub fn pairs_of(table: Table, n: usize) -> [Given; 32]
 }
 
 // A held job with so many units less to do.
+#[tactic(auto, unfolding(promise::specs::DeskCalls::lowered))]
 fn less_work(h: Held, machines: u32) -> Held
     requires { machines ≤ h.left }
     ensures { result ≡ lowered machines h }
