@@ -102,7 +102,8 @@ pub fn plan(machines: u32, list: &[u32], plan: &mut [u16]) -> Answer
     }
     let jobs = rows::load(list, machines);
     let fit = fit_answer(walk::walk(jobs, n, machines));
-    if fit.number != 0 {
+    let refused = fit.number != 0;
+    if refused {
         return fit;
     }
     write_plan(jobs, n, machines, plan);
@@ -120,7 +121,8 @@ pub fn room(machines: u32, list: &[u32], b: u32) -> RoomAnswer
             room: 0,
         };
     }
-    if 168 < b {
+    let far = 168 < b;
+    if far {
         let over = rows::refuse(9, 0, 0);
         return RoomAnswer {
             answer: over,

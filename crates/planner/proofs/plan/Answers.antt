@@ -36,13 +36,13 @@ walk-requires c =
     loaded_small c.args.machines c.args.list.now f.result f.ensures (omega arith) _ c.load-jobs.result c.load-jobs.ensures in
     (short_list c.args.machines c.args.list.now f.result f.ensures (omega arith), s.0, s.1)
 
-pub returns-then-fit-ne0 : goal.returns-then-fit-ne0
+pub returns-then-refused : goal.returns-then-refused
 unfolding row_count
-returns-then-fit-ne0 c =
+returns-then-refused c =
     let f = c.list_fault-fault in
     plan_seven c.args.machines c.args.list.now f.result f.ensures c.args.plan.now (omega arith) (omega arith) c.fit_answer-fit.result
     (c.fit_answer-fit.ensures ∙ ap fit_answer (c.walk.ensures ∙ ap (least_short c.args.machines) c.load-jobs.ensures))
-    c.if-fit-ne0.true
+    (omega arith)
 
 pub write_plan-requires : goal.write_plan-requires
 unfolding row_count

@@ -10,10 +10,10 @@ pub returns-then-fault-ne0 : goal.returns-then-fault-ne0
 returns-then-fault-ne0 c =
     let f = c.list_fault-fault in room_fault c.args.machines c.args.list.now f.result f.ensures c.args.b c.if-fault-ne0.true
 
-pub returns-then-b-gt168 : goal.returns-then-b-gt168
-returns-then-b-gt168 c =
+pub returns-then-far : goal.returns-then-far
+returns-then-far c =
     let f = c.list_fault-fault in
-    room_far c.args.machines c.args.list.now f.result f.ensures c.args.b (omega arith) c.if-b-gt168.true c.refuse-over.result
+    room_far c.args.machines c.args.list.now f.result f.ensures c.args.b (omega arith) (omega arith) c.refuse-over.result
     c.refuse-over.ensures
 
 pub load-jobs-requires : goal.load-jobs-requires
