@@ -71,7 +71,8 @@ fn seat_fault(desk: Desk, n: usize, number: u32) -> Answer
     if let Found::At(_) = seats::find(desk, n, number) {
         return rows::refuse(5, 0, 0);
     }
-    if 32 <= n {
+    let full = 32 <= n;
+    if full {
         return rows::refuse(8, 0, 0);
     }
     rows::accept()
@@ -225,7 +226,8 @@ fn run_fault(desk: Desk) -> Answer
     if unsound.number != 0 {
         return unsound;
     }
-    if desk.clock == 100000 {
+    let at_the_end = desk.clock == 100000;
+    if at_the_end {
         return rows::refuse(11, 0, 0);
     }
     rows::accept()
