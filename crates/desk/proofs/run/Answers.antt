@@ -26,13 +26,13 @@ pub pairs_of-requires : goal.pairs_of-requires
 pairs_of-requires c =
     let len : length c.args.desk.seats ≡ 32 = search rules in
     let f = c.run_fault-answer in
-    rw c.held_count-n.ensures (run_sound _ f.result f.ensures c.if-answer-ne0.false len).few
+    omega (arith, c.held_count-n.ensures, (run_sound _ f.result f.ensures c.if-answer-ne0.false len).few)
 
 pub after_slot-requires : goal.after_slot-requires
 after_slot-requires c =
     let len : length c.args.desk.seats ≡ 32 = search rules in
     let f = c.run_fault-answer in (
-      rw c.held_count-n.ensures (run_sound _ f.result f.ensures c.if-answer-ne0.false len).few,
+      omega (arith, c.held_count-n.ensures, (run_sound _ f.result f.ensures c.if-answer-ne0.false len).few),
       before_the_end _ f.result f.ensures c.if-answer-ne0.false len,
     )
 
