@@ -55,9 +55,6 @@ pub run_written : (plan : List ℕ) (i : ℕ) {at end : ℕ} {before after : Lis
 run_written plan i part e w = rw e at w
 
 -- one row more, and no more
-pub first_row : (rows plan : List ℕ) (n : ℕ) → rows_lines rows plan 0 n ≡ rows_lines rows plan 0 (n - 0)
-first_row rows plan n = let e : n ≡ n - 0 = omega arith in ap (rows_lines rows plan 0) e
-
 pub next_row : (rows plan : List ℕ) (i n : ℕ) → i < n
     → rows_lines rows plan i (n - i) ≡ row_lines rows plan i ++ rows_lines rows plan (i + 1) (n - (i + 1))
 next_row rows plan i n l =
