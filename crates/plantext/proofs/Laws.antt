@@ -251,6 +251,8 @@ module _ (r : Reading) where
   unfolding row_count
   held_rows l e = omega (arith, length-take-le (4 * r.groups) r.rows (omega arith))
 
+pub ruleset reading_laws = (not_read_lem, many_read, few_read, held_rows)
+
 -- a text put at the start of zeros has zeros after it
 put_after : (front text : List ℕ) (n : ℕ) → length text ≤ n → put_at (length front) text (front ++ replicate n 0) ≡ front ++ (text ++ replicate (n - length text) 0)
 put_after front [] n l = let e : n ≡ n - 0 = omega arith in ap (λ (k : ℕ). front ++ replicate k 0) e

@@ -67,6 +67,7 @@ fn too_many(machines: u32) -> Answer
     rows::refuse(3, 0, 0)
 }
 
+#[tactic(auto, using(crate::proofs::Laws::reading_laws))]
 fn write_reading(out: &mut [u8], reading: Reading) -> usize
     requires { length (reading_text reading) ≤ length out.old }
     ensures { Writes (reading_text reading) 0 out.old result out.new }
