@@ -1,6 +1,7 @@
 // The program: standard input to standard output. What it prints is plantext's to say.
 #![tactic(auto)]
 
+#[tactic(auto, using(promise::proofs::TextSize::text_counts))]
 fn main() {
     // one byte more than a job file may have, so that a longer one is seen
     let mut bytes = [0u8; 4097];
