@@ -1,4 +1,4 @@
-use Rattle.std.proofs.Common.{rules, ◌≡◌, length}
+use Rattle.std.proofs.Common.{rules, ◌≡◌, length, arith}
 use Rattle.promise.specs.DeskCalls.{pairs}
 use Rattle.desk.proofs.Runs.{run_refused, run_sound, before_the_end, run_plannable, run_answered}
 use Rattle.desk.proofs.run.Goals as goal
