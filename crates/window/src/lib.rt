@@ -43,7 +43,8 @@ fn early_fault(machines: u32, list: &[u8]) -> u32
     if list.len() % 16 != 0 {
         return 2;
     }
-    if 32 < list.len() / 16 {
+    let many = 32 < list.len() / 16;
+    if many {
         return 3;
     }
     0
@@ -100,7 +101,8 @@ fn plan_bytes(machines: u32, rows: &[u32], cells: &mut [u16], plan: &mut [u8]) -
     ensures { RowsPromise machines rows.now plan.old result plan.new }
 {
     let planned = planner::plan(machines, rows, &mut *cells);
-    if planned.number != 0 {
+    let refused = planned.number != 0;
+    if refused {
         return packed(planned);
     }
     write_bytes(&cells[..], plan);
@@ -157,10 +159,12 @@ pub extern "C" fn vezhdanur_open(machines: u32, bytes: &mut [u8]) -> u64
 {
     let opened = desk::open(machines);
     let count = opened.answer;
-    if count.number != 0 {
+    let refused = count.number != 0;
+    if refused {
         return packed(count);
     }
-    if bytes.len() == 776 {
+    let whole = bytes.len() == 776;
+    if whole {
         let empty = opened.desk;
         record::write_desk(empty, bytes);
         return 0;
@@ -232,10 +236,12 @@ fn output_fault(bytes: &[u8], lent: usize, written: usize) -> u32
     }
     let unsound = desk::sound_fault(record::read_desk(bytes));
     let twelve = unsound.number;
-    if twelve != 0 {
+    let unsound = twelve != 0;
+    if unsound {
         return twelve;
     }
-    if lent < written {
+    let short = lent < written;
+    if short {
         return 6;
     }
     0
