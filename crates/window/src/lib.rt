@@ -236,8 +236,8 @@ fn output_fault(bytes: &[u8], lent: usize, written: usize) -> u32
     }
     let unsound = desk::sound_fault(record::read_desk(bytes));
     let twelve = unsound.number;
-    let unsound = twelve != 0;
-    if unsound {
+    let refused = twelve != 0;
+    if refused {
         return twelve;
     }
     let short = lent < written;

@@ -5,8 +5,8 @@ use Rattle.window.proofs.output_fault.Goals as goal
 pub returns-then-bytes-ne776 : goal.returns-then-bytes-ne776
 returns-then-bytes-ne776 c = let a = c.args in output_length a.bytes.now a.lent a.written c.if-bytes-ne776.true
 
-pub returns-then-unsound : goal.returns-then-unsound
-returns-then-unsound c =
+pub returns-then-refused : goal.returns-then-refused
+returns-then-refused c =
     let a = c.args in
     let d = c.read_desk in
     let s = c.sound_fault-unsound in
