@@ -250,7 +250,7 @@ fn output_fault(bytes: &[u8], lent: usize, written: usize) -> u32
 // Look: the four figures of a job.
 #[unsafe(no_mangle)]
 pub extern "C" fn vezhdanur_look(bytes: &[u8], number: u32, figures: &mut [u8]) -> u64
-    ensures { LookBytesPromise bytes.now number figures.old result bytes.now figures.new }
+    ensures { LookBytesPromise bytes.entry.now number figures.old result bytes.exit.now figures.new }
 {
     let fault = output_fault(bytes, figures.len(), 16);
     if fault != 0 {
