@@ -18,9 +18,6 @@ use Rattle.promise.specs.DeskCalls.{is_sound, sound_fault, new_held}
 use Rattle.promise.specs.DeskClaims.{Has32Seats}
 use Rattle.figures.specs.declared.Job.{Job}
 use Rattle.figures.specs.Jobs.{as_job}
-use Rattle.walk.specs.declared.Fit.{Fit}
-use Rattle.walk.specs.declared.Fit.TheVariants.{Short}
-use Rattle.desk.specs.Calls.{Near}
 use Rattle.promise.proofs.Ladder.{same_number}
 use Rattle.promise.proofs.DeskSound.{sound_is_tested}
 
@@ -67,6 +64,3 @@ new_made clock s j e = rw e refl
 pub leeway_made : (machines : ℕ) (h : Held) (w r : ℕ) → w ≡ width machines h.bound → r ≡ run_length h.work w → 100 * h.slots / r ≡ leeway machines h
 unfolding leeway
 leeway_made machines h w r ew er = ap (λ (x : ℕ). 100 * h.slots / x) (er ∙ ap (run_length h.work) ew)
-
-pub near_place : (fit : Fit) (place amount : ℕ) → fit ≡ Short place amount → Near fit → place ≤ 168
-near_place fit place amount e n = rw e at n

@@ -7,10 +7,6 @@ use Rattle.model.specs.Lists.{All}
 use lib.ListN.{length, get_or, take, drop, set, length-map, length-set}
 use lib.Seq.{drop-cons, drop-length, get_or-take, length-take-le, get_or-set_same, take-set-lt, drop-set-lt}
 
--- the length of an array of structs in a struct
-pub length_unmapped : (A B : Type 0) (f : A → B) (l : List A) (n : ℕ) → length (map f l) ≡ n → length l ≡ n
-length_unmapped A B f l n p = sym (length-map l f) ∙ p
-
 module _ {A B : Type 0} (f : A → B) where
   -- the first n, from index i on
   module _ (n : ℕ) (l : List A) (hn : n ≤ length l) where
@@ -34,12 +30,6 @@ module _ {A B : Type 0} (f : A → B) where
   abbrev pub swept : List A → List B → ℕ → List B
   swept l z i = map f (take i l) ++ drop i z
 
-  pub sweep_start : (l : List A) (z : List B) → z ≡ swept l z 0
-  sweep_start [] [] = refl
-  sweep_start [] (y ∷ z) = refl
-  sweep_start (x ∷ l) [] = refl
-  sweep_start (x ∷ l) (y ∷ z) = refl
-
   pub sweep_here : (l : List A) (z : List B) (i : ℕ) (d : B) → i < length l → get_or (swept l z i) i d ≡ get_or z i d
   sweep_here [] z i d h = absurd (omega arith)
   sweep_here (x ∷ l) [] zero d h = refl
@@ -57,12 +47,6 @@ module _ {A B : Type 0} (f : A → B) where
   sweep_step (x ∷ l) [] i d h k = absurd (omega arith)
   sweep_step (x ∷ l) (y ∷ z) zero d h k = refl
   sweep_step (x ∷ l) (y ∷ z) (suc i) d h k = ap (λ (m : List B). f x ∷ m) (sweep_step l z i d (omega arith) (omega arith))
-
-  pub sweep_end : (l : List A) (z : List B) (i : ℕ) → i ≡ length l → i ≡ length z → swept l z i ≡ map f l
-  sweep_end [] [] i h k = rw h refl
-  sweep_end [] (y ∷ z) i h k = absurd (omega arith)
-  sweep_end (x ∷ l) [] i h k = absurd (omega arith)
-  sweep_end (x ∷ l) (y ∷ z) i h k = rw h (ap (λ (m : List B). f x ∷ m) (sweep_end l z (length l) refl (omega arith)))
 
 -- what holds of each member holds of the one at index i
 pub all_from : {A : Type 0} (P : A → Type 0) (l : List A) (i : ℕ) {x : A} {xs : List A} → All P l → drop i l ≡ x ∷ xs → P x

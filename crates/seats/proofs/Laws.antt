@@ -6,8 +6,8 @@ use mathlib.Core.Path.{◌≡◌, refl, sym, ◌∙◌, ap, ap₂}
 use mathlib.Core.Bool.{Bool, true, false, cond, ◌||◌}
 use mathlib.Core.List.{List, [], ◌∷◌, ◌++◌, append-nil, append_assoc}
 use lib.Dec.{ltb, eqb}
-use lib.ListN.{length, get_or, take, drop, set, replicate, length-append, length-drop, take-append-drop, replicate-append-replicate, get_or-append}
-use lib.Seq.{drop-cons, drop-length, set_at, take-suc, append_snoc, get_or_at, get_or-append-add, get_or-drop, length-take-le, take_all, take_at, take-append-add}
+use lib.ListN.{length, get_or, take, drop, set, replicate, length-append, length-drop, replicate-append-replicate, get_or-append}
+use lib.Seq.{drop-cons, drop-length, set_at, take-suc, append_snoc, get_or_at, get_or-append-add, get_or-drop, length-take-le, take_all, take-append-add}
 use Rattle.promise.specs.declared.Held.{Held}
 use Rattle.promise.specs.declared.Desk.{Desk}
 use Rattle.promise.specs.Desk.{unused, table, desk_of}
@@ -40,20 +40,12 @@ mixed_read r l i k d hr hk =
 pub mixed_end : (r l : List Held) (n : ℕ) → n ≡ length l → mixed r l n ≡ take n r
 mixed_end r l n e = rw (e, drop-length l) (append-nil (take (length l) r))
 
-pub mixed_start : (p q l : List Held) (at : ℕ) → p ≡ take at l → at ≤ length l → l ≡ mixed (p ++ q) l at
-mixed_start p q l at e h =
-    sym (take-append-drop at l)
-    ∙ ap (λ (x : List Held). x ++ drop at l) (sym e ∙ sym (take_at p q at (ap (λ (x : List Held). length x) e ∙ length-take-le at l h)))
-
 -- ---- a job put in
 
 abbrev pub widened : ℕ → Held → List Held → List Held
 widened at h l = take at l ++ h ∷ drop at l
 
 module _ (l : List Held) (at : ℕ) (h : Held) (ha : at ≤ length l) where
-  pub widened_new : (d : Held) → get_or (widened at h l) at d ≡ h
-  widened_new d = get_or_at (take at l) h (drop at l) d at (length-take-le at l ha)
-
   widened_later : (i : ℕ) (d : Held) → at ≤ i → get_or (widened at h l) (suc i) d ≡ get_or l i d
   widened_later i d k =
       let e : suc i ≡ length (take at l) + suc (i - at) = rw (length-take-le at l ha) (omega arith) in

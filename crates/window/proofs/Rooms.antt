@@ -1,16 +1,13 @@
 -- A room as a word of 32 bits, and Room at the window, from the answers of its parts.
-use Prim.Native.Nat.{ℕ, ◌*◌, ◌-◌, ◌/◌, ◌≤◌, ◌<◌}
+use Prim.Native.Nat.{ℕ, ◌*◌, ◌/◌, ◌<◌}
 use native.Mathlib.Omega.{arith}
-use mathlib.Core.Path.{◌≡◌, refl, sym, ◌∙◌, ap}
+use mathlib.Core.Path.{◌≡◌, sym, ◌∙◌, ap}
 use mathlib.Core.Logic.{◌≢◌}
-use mathlib.Core.Bool.{true, false, true≢false}
 use mathlib.Core.List.{List}
-use lib.Dec.{T}
-use lib.IntN.{ℤ, pos, negsuc, nat_abs}
+use lib.IntN.{ℤ, pos, negsuc}
 use lib.ListN.{length, take}
-use lib.Signed.{mag, lt_z, non_neg}
-use borrow.Author.Tests.{ltb-true, eq-eqb, ne_eqb}
-use Rattle.model.specs.Boundaries.{shortage}
+use lib.Signed.{mag}
+use borrow.Author.Tests.{eq-eqb, ne_eqb}
 use Rattle.promise.specs.declared.Answer.{Answer}
 use Rattle.promise.specs.declared.RoomAnswer.{RoomAnswer}
 use Rattle.promise.specs.Answers.{refusal}
@@ -21,22 +18,6 @@ use Rattle.promise.proofs.RoomWord.{figure_small}
 use Rattle.promise.proofs.Theorems.{answers_pack}
 use Rattle.window.specs.Bytes.{early_fault}
 use Rattle.window.proofs.Early.{whole_packed, refused_early, read_next, rows_read}
-
-pub short_word : (z : ℤ) → lt_z z (pos 0) ≡ true → 4294967296 - shortage z ≡ room_word z
-short_word (pos n) h = absurd (omega (arith, ltb-true n 0 h))
-short_word (negsuc n) h = refl
-
-pub not_negative : (z : ℤ) → lt_z z (pos 0) ≡ false → T (non_neg z)
-not_negative (pos n) h = tt
-not_negative (negsuc n) h = absurd (true≢false h)
-
-pub plain_small : (z : ℤ) (H : ℕ) → mag z < H → nat_abs z ≤ H
-plain_small (pos n) H h = omega arith
-plain_small (negsuc n) H h = omega arith
-
-pub plain_word : (z : ℤ) → lt_z z (pos 0) ≡ false → nat_abs z ≡ room_word z
-plain_word (pos n) h = refl
-plain_word (negsuc n) h = absurd (true≢false h)
 
 word_small : (z : ℤ) → mag z < 2000000 → room_word z < 4294967296
 word_small (pos n) h = omega arith

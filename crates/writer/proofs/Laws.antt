@@ -24,9 +24,6 @@ put_append at (b ∷ text) more bytes =
     put_append (suc at) text more (set bytes at b)
     ∙ ap (λ (k : ℕ). put_at k more (put_at (suc at) text (set bytes at b))) (omega arith)
 
-pub nothing : {at : ℕ} {bytes : List ℕ} → Writes [] at bytes at bytes
-nothing {at} {bytes} = record { written = refl; counted = omega arith }
-
 -- The writing of a text under way: `rest` is what is still to be put, at index `end` of the bytes as they are now.
 pub record Left (text : List ℕ) (at : ℕ) (before rest : List ℕ) (end : ℕ) (out : List ℕ) : Type 0 where
   pub written : put_at at text before ≡ put_at end rest out

@@ -1,10 +1,9 @@
-use Rattle.std.proofs.Common.{rules, ◌≡◌, length, add-one, arith}
+use Rattle.std.proofs.Common.{rules, add-one, arith}
 use Rattle.planner.proofs.Shares.{start_step}
 use Rattle.planner.proofs.start.Goals as goal
 
 pub loop-i-preserved : goal.loop-i-preserved
 loop-i-preserved c =
-    let len : length c.args.list.jobs ≡ 32 = search rules in
     let i = c.loop-i.i in
     let so_far = c.loop-i.invariant.so_far in record {
       within = omega arith;

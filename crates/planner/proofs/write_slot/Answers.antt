@@ -1,16 +1,14 @@
-use Rattle.std.proofs.Common.{rules, ◌≡◌, length, length-set, sym, ◌∙◌, ap, add-one, arith}
+use Rattle.std.proofs.Common.{length, length-set, sym, ◌∙◌, ap, add-one, arith}
 use Rattle.planner.proofs.Shares.{column_step, slim_at, column_end}
 use Rattle.planner.proofs.write_slot.Goals as goal
 
 pub put-requires : goal.put-requires
 put-requires c =
-    let len : length c.args.table.shares ≡ 32 = search rules in
     let size = c.loop-i.invariant.size in
     (omega arith, slim_at c.args.n c.args.table (omega arith) c.args.t c.loop-i.i _ (omega arith) c.requires.4)
 
 pub loop-i-preserved : goal.loop-i-preserved
 loop-i-preserved c =
-    let len : length c.args.table.shares ≡ 32 = search rules in
     let i = c.loop-i.i in
     let v = c.loop-i.invariant in
     let e = c.put.ensures in record {
@@ -21,7 +19,6 @@ loop-i-preserved c =
 
 pub returns : goal.returns
 returns c =
-    let len : length c.args.table.shares ≡ 32 = search rules in
     sym
     (c.loop-i.invariant.same
     ∙ column_end c.args.n c.args.table (omega arith) c.args.t c.loop-i.i (omega arith) c.loop-i.plan)

@@ -1,5 +1,5 @@
 use Rattle.std.proofs.Common.{◌∙◌, arith}
-use Rattle.rows.proofs.Laws.{few_rows, miscounted, broken_row, many_rows, rows_only}
+use Rattle.rows.proofs.Laws.{few_rows, miscounted, broken_row, rows_only}
 use Rattle.rows.proofs.list_fault.Goals as goal
 
 pub returns-then-count-ne0 : goal.returns-then-count-ne0

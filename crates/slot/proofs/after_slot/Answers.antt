@@ -1,4 +1,4 @@
-use Rattle.std.proofs.Common.{rules, ◌≡◌, ◌≤◌, ◌<◌, length, refl, arith}
+use Rattle.std.proofs.Common.{◌≤◌, ◌<◌, length, refl, arith}
 use Rattle.slot.proofs.Laws.{kept_none, built_one, built_out, built_all}
 use Rattle.slot.proofs.after_slot.Goals as goal
 use Rattle.slot.proofs.after_slot.Goals.{then-p-h, else-p-h}
@@ -6,8 +6,6 @@ use Rattle.slot.proofs.after_slot.Goals.{then-p-h, else-p-h}
 pub loop-i-init : goal.loop-i-init
 loop-i-init c =
     let a = c.args in
-    let shares : length c.args.table.shares ≡ 32 = search rules in
-    let seats : length c.args.desk.seats ≡ 32 = search rules in
     let free = c.free_seat-free in record {
       within = omega arith;
       built = (omega arith, refl, refl, refl, kept_none a.n a.table a.desk.seats (omega arith) (omega arith) free.result free.ensures);
@@ -16,8 +14,6 @@ loop-i-init c =
 pub loop-i-preserved : goal.loop-i-preserved
 loop-i-preserved c =
     let a = c.args in
-    let shares : length c.args.table.shares ≡ 32 = search rules in
-    let seats : length c.args.desk.seats ≡ 32 = search rules in
     let hp : c.args.n ≤ length c.args.table.shares = omega arith in
     let hs : c.args.n ≤ length c.args.desk.seats = omega arith in
     let s = c.loop-i in
@@ -36,6 +32,4 @@ loop-i-preserved c =
 pub returns : goal.returns
 returns c =
     let a = c.args in
-    let shares : length c.args.table.shares ≡ 32 = search rules in
-    let seats : length c.args.desk.seats ≡ 32 = search rules in
     built_all a.n a.table a.desk (omega arith) (omega arith) c.loop-i.i c.loop-i.k c.loop-i.next (omega arith) c.loop-i.invariant.built
