@@ -3,10 +3,10 @@
 program=$root/target/bin/plan
 library=$root/target/staticlib/libwindow.a
 
-# build_if_older TARGET WHAT CRATE COMMAND..: runs COMMAND in the folder of CRATE and puts what it leaves in out/ at TARGET; what
-# the build says is shown only if it fails.
+# build_if_older TARGET WHAT CRATE/FILE COMMAND..: runs COMMAND in the folder of CRATE and puts the FILE that it leaves in out/ at
+# TARGET; what the build says is shown only if it fails.
 build_if_older() {
-    local target=$1 what=$2 crate=$3 said
+    local target=$1 what=$2 crate=${3%/*} file=${3#*/} said
     shift 3
     if [ -e "$target" ] &&
         [ -z "$(find "$root/crates" "$root/crates.txt" -newer "$target" -type f ! -path '*/must-fail/*' ! -path '*/out/*' -print -quit)" ]; then
@@ -18,8 +18,8 @@ build_if_older() {
         return 1
     fi
     mkdir -p "$(dirname "$target")"
-    cp "$root/crates/$crate/out/$(basename "$target")" "$target" # a copy, newer than every source
+    cp "$root/crates/$crate/out/$file" "$target" # a copy, newer than every source
 }
 
-build_program() { build_if_older "$program" "the program" plan rt run; }
-build_library() { build_if_older "$library" "the static library" window rt lib; }
+build_program() { build_if_older "$program" "the program" plan/plan rt run; }
+build_library() { build_if_older "$library" "the static library" window_c/libwindow_c.a rt lib; }

@@ -1,4 +1,4 @@
-// The host window: the planner and the desk exported on numbers and lent slices.
+// The host window: the planner and the desk on numbers and lent slices, as bytes where C has bytes. `window_c` exports its calls.
 #![tactic(auto)]
 
 ghost use Rattle.std.specs.Prelude.{◌≡◌, cond, ◌++◌, ◌+◌, ◌*◌, ◌/◌, ◌≤◌, ◌<◌, min, eqb, length, take, drop};
@@ -110,8 +110,7 @@ fn plan_bytes(machines: u32, rows: &[u32], cells: &mut [u16], plan: &mut [u8]) -
 }
 
 // 01's host call: the list and the plan as bytes.
-#[unsafe(no_mangle)]
-pub extern "C" fn vezhdanur_plan(machines: u32, list: &[u8], plan: &mut [u8]) -> u64
+pub fn vezhdanur_plan(machines: u32, list: &[u8], plan: &mut [u8]) -> u64
     ensures { PlanBytesPromise machines list.now plan.old result plan.new }
 {
     let fault = early_fault(machines, list);
@@ -126,16 +125,14 @@ pub extern "C" fn vezhdanur_plan(machines: u32, list: &[u8], plan: &mut [u8]) ->
 }
 
 // The same on numbers.
-#[unsafe(no_mangle)]
-pub extern "C" fn vezhdanur_plan_numbers(machines: u32, rows: &[u32], plan: &mut [u16]) -> u64
+pub fn vezhdanur_plan_numbers(machines: u32, rows: &[u32], plan: &mut [u16]) -> u64
     ensures { PlanNumbersPromise machines rows.now plan.old result plan.new }
 {
     packed(planner::plan(machines, rows, plan))
 }
 
 // Room: a refusal packed, or the room in the upper half.
-#[unsafe(no_mangle)]
-pub extern "C" fn vezhdanur_room(machines: u32, list: &[u8], boundary: u32) -> u64
+pub fn vezhdanur_room(machines: u32, list: &[u8], boundary: u32) -> u64
     ensures { RoomBytesPromise machines list.now boundary result }
 {
     let fault = early_fault(machines, list);
@@ -153,8 +150,7 @@ pub extern "C" fn vezhdanur_room(machines: u32, list: &[u8], boundary: u32) -> u
 }
 
 // Open: an empty desk over the bytes of one record.
-#[unsafe(no_mangle)]
-pub extern "C" fn vezhdanur_open(machines: u32, bytes: &mut [u8]) -> u64
+pub fn vezhdanur_open(machines: u32, bytes: &mut [u8]) -> u64
     ensures { OpenBytesPromise machines bytes.old result bytes.new }
 {
     let opened = desk::open(machines);
@@ -173,14 +169,7 @@ pub extern "C" fn vezhdanur_open(machines: u32, bytes: &mut [u8]) -> u64
 }
 
 // Admit: the record with the job in its seat, or as it was.
-#[unsafe(no_mangle)]
-pub extern "C" fn vezhdanur_admit(
-    bytes: &mut [u8],
-    number: u32,
-    work: u32,
-    deadline: u32,
-    bound: u32,
-) -> u64
+pub fn vezhdanur_admit(bytes: &mut [u8], number: u32, work: u32, deadline: u32, bound: u32) -> u64
     ensures { AdmitBytesPromise bytes.old (record { number = number; work = work; deadline = deadline; bound = bound }) result bytes.new }
 {
     if bytes.len() != 776 {
@@ -212,8 +201,7 @@ fn withdrawn_word(answer: Answer, left: u32) -> u64
 }
 
 // Withdraw: the record without the job, and its remaining work.
-#[unsafe(no_mangle)]
-pub extern "C" fn vezhdanur_withdraw(bytes: &mut [u8], number: u32) -> u64
+pub fn vezhdanur_withdraw(bytes: &mut [u8], number: u32) -> u64
     ensures { WithdrawBytesPromise bytes.old number result bytes.new }
 {
     if bytes.len() != 776 {
@@ -248,8 +236,7 @@ fn output_fault(bytes: &[u8], lent: usize, written: usize) -> u32
 }
 
 // Look: the four figures of a job.
-#[unsafe(no_mangle)]
-pub extern "C" fn vezhdanur_look(bytes: &[u8], number: u32, figures: &mut [u8]) -> u64
+pub fn vezhdanur_look(bytes: &[u8], number: u32, figures: &mut [u8]) -> u64
     ensures { LookBytesPromise bytes.entry.now number figures.old result bytes.exit.now figures.new }
 {
     let fault = output_fault(bytes, figures.len(), 16);
@@ -263,8 +250,7 @@ pub extern "C" fn vezhdanur_look(bytes: &[u8], number: u32, figures: &mut [u8]) 
 }
 
 // Run: slot 1 of the plan given out, and the record after it.
-#[unsafe(no_mangle)]
-pub extern "C" fn vezhdanur_run(bytes: &mut [u8], given: &mut [u8]) -> u64
+pub fn vezhdanur_run(bytes: &mut [u8], given: &mut [u8]) -> u64
     ensures { RunBytesPromise bytes.old given.old result bytes.new given.new }
 {
     let fault = output_fault(&bytes[..], given.len(), 256);
