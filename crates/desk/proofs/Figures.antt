@@ -1,20 +1,22 @@
--- A desk that is handed in, and what its sound test, its table and its search tell.
+-- A desk that passes the sound test, and figures as they are worked out.
 use Prim.Native.Nat.{ℕ, zero, suc, ◌*◌, ◌-◌, ◌/◌, ◌≤◌, ◌<◌}
 use native.Mathlib.Omega.{arith}
 use mathlib.Core.Path.{◌≡◌, refl, sym, ◌∙◌, ap}
-use mathlib.Core.Bool.{Bool, true, false}
+use mathlib.Core.Bool.{Bool, true, false, not, ◌&&◌}
 use mathlib.Core.List.{List, [], ◌∷◌}
+use lib.Dec.{leb}
 use lib.ListN.{length, get_or}
+use borrow.Author.Tests.{leb-true}
 use Rattle.model.specs.Lists.{All}
 use Rattle.model.specs.Jobs.{run_length, width}
+use Rattle.model.specs.Boundaries.{least_short}
+use Rattle.model.proofs.Lists.{and_true}
 use Rattle.model.proofs.Choice.{le_run}
-use Rattle.promise.specs.declared.Answer.{Answer}
 use Rattle.promise.specs.declared.Held.{Held}
 use Rattle.promise.specs.declared.Desk.{Desk}
-use Rattle.promise.specs.Answers as Answers
-use Rattle.promise.specs.Answers.{refusal}
-use Rattle.promise.specs.Desk.{Sound, leeway}
-use Rattle.promise.specs.DeskCalls.{is_sound, sound_fault, new_held}
+use Rattle.promise.specs.Answers.{yes, refusal, fault}
+use Rattle.promise.specs.Desk.{Sound, leeway, jobs_for}
+use Rattle.promise.specs.DeskCalls.{seats_ok, none_short, is_sound, sound_fault, new_held}
 use Rattle.promise.specs.DeskClaims.{Has32Seats}
 use Rattle.figures.specs.declared.Job.{Job}
 use Rattle.figures.specs.Jobs.{as_job}
@@ -39,21 +41,27 @@ unfolding width
 width_positive machines bound m b = b
 
 -- a desk that passes the sound test
-module _ (desk : Desk) (len : Has32Seats desk) (f : Answer) (told : f ≡ sound_fault desk) (zero : f.number ≡ 0) where
-  passed : is_sound desk ≡ true
+module _ (desk : Desk) (clear : (sound_fault desk).number ≡ 0) where
+  tested : is_sound desk ≡ true
   unfolding sound_fault
-  passed = go (is_sound desk) refl
+  tested = go (is_sound desk) refl clear
     where
-      go : (t : Bool) → is_sound desk ≡ t → is_sound desk ≡ true
-      go true e = e
-      go false e = absurd (let q : f ≡ refusal 12 0 0 = told ∙ rw e refl in let w : 12 ≡ 0 = sym (same_number q) ∙ zero in omega arith)
+      go : (t : Bool) → is_sound desk ≡ t → (fault (not t) (refusal 12 0 0)).number ≡ 0 → is_sound desk ≡ true
+      go true e z = e
+      go false e z = absurd (omega arith)
 
-  pub good : Sound desk
-  good = (sound_is_tested desk len).0 passed
+  pub good : Has32Seats desk → Sound desk
+  good len = (sound_is_tested desk len).0 tested
 
-  pub sound_yes : sound_fault desk ≡ Answers.yes
-  unfolding sound_fault
-  sound_yes = rw passed refl
+-- its clock leaves room for sums
+pub early_clock : (desk : Desk) → yes ≡ sound_fault desk → desk.clock ≤ 100000
+unfolding is_sound
+early_clock desk clear =
+    let machines = leb 1 desk.machines && leb desk.machines 64 in
+    let clock = leb desk.clock 100000 in
+    let seats = seats_ok desk.clock 0 desk.seats in
+    let a = and_true (machines && clock && seats) (none_short (least_short desk.machines (jobs_for desk))) (tested desk (sym (same_number clear))) in
+    leb-true desk.clock 100000 (and_true machines clock (and_true (machines && clock) seats a.0).0).1
 
 -- the new job's seat, and a leeway, from figures that were worked out
 pub new_made : (clock s : ℕ) (j : Job) → s ≡ j.deadline - clock
@@ -64,3 +72,5 @@ new_made clock s j e = rw e refl
 pub leeway_made : (machines : ℕ) (h : Held) (w r : ℕ) → w ≡ width machines h.bound → r ≡ run_length h.work w → 100 * h.slots / r ≡ leeway machines h
 unfolding leeway
 leeway_made machines h w r ew er = ap (λ (x : ℕ). 100 * h.slots / x) (er ∙ ap (run_length h.work) ew)
+
+pub ruleset leeway_laws = (run_positive, width_positive, leeway_made)

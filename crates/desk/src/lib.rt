@@ -1,99 +1,99 @@
-// The desk by value: Open, Admit, Withdraw, Look and Run, each with its answer, its figures and the desk.
+// The desk by value: Open, Admit, Withdraw, Look and Run, each with its figures or a refusal, and the desk.
 #![tactic(auto)]
 
-ghost use Rattle.std.specs.Prelude.{◌≡◌, [], ◌+◌, ◌≤◌, ◌<◌, min, length};
-ghost use Rattle.figures.specs.Jobs.{as_job};
-ghost use Rattle.walk.specs.Walk.{as_short};
-ghost use Rattle.promise.specs.Desk.{held_of, desk_of, leeway};
-ghost use Rattle.promise.specs.DeskCalls.{new_held, desk_fit, sound_fault, open_of, admit_of, withdraw_of, look_of, run_answer, run_of};
-ghost use Rattle.desk.specs.Calls.{seat_fault, admit_fault, Near};
+ghost use Rattle.std.specs.Prelude.{◌≡◌, [], ◌+◌, ◌≤◌, ◌<◌, Ok, Err, IfOk, IfErr};
+ghost use Rattle.promise.specs.Answers.{yes};
+ghost use Rattle.model.specs.Lists.{All};
+ghost use Rattle.model.specs.Boundaries.{least_short};
+ghost use Rattle.figures.specs.Jobs.{as_job, as_jobs};
+ghost use Rattle.walk.specs.Walk.{InRange};
+ghost use Rattle.seats.specs.Seats.{find_in};
+ghost use Rattle.promise.specs.Desk.{held_of, desk_of, jobs_for, leeway};
+ghost use Rattle.promise.specs.DeskCalls.{new_held, with_new, sound_fault, desk_fit, open_of, admit_answer, admit_of, find_answer, withdraw_of, look_of, run_answer, run_of};
+ghost use Rattle.promise.specs.Refusals.{as_answer, as_desked, as_withdrawn, as_looked, as_ran};
+ghost use Rattle.desk.specs.Calls.{seat_fault, admit_fault, told};
 
-use figures::Job;
-use promise::{Answer, Desk, Desked, Given, Held, Looked, Ran, Withdrawn};
-use seats::Found;
-use walk::Fit;
+use figures::{Job, Jobs};
+use promise::{Desk, Figures, Given, Held, Outcome, Refusal};
 
 // A desk with no job, at clock 0.
+#[tactic(auto, unfolding(promise::specs::Desk::desk_of, promise::specs::Desk::table))]
 fn empty(machines: u32) -> Desk
     ensures { result ≡ desk_of machines 0 [] }
 {
-    let free = seats::free_seat();
     Desk {
         machines,
         clock: 0,
-        seats: [free; 32],
+        seats: [Held::default(); 32],
+    }
+}
+
+// What a call told and the desk that it leaves, or its refusal and the desk handed in.
+fn outcome<T>(told: Result<(T, Desk), Refusal>, desk: Desk) -> Outcome<T>
+    ensures told { IfOk told (λ told. result ≡ record { answer = Ok told.0; desk = told.1 }) }
+    ensures refused { IfErr told (λ refusal. result ≡ record { answer = Err refusal; desk = desk }) }
+{
+    match told {
+        Ok((figures, next)) => Outcome {
+            answer: Ok(figures),
+            desk: next,
+        },
+        Err(refusal) => Outcome {
+            answer: Err(refusal),
+            desk,
+        },
     }
 }
 
 // Open: a desk of so many machines; a count that is refused gives an empty one-machine desk.
-pub fn open(machines: u32) -> Desked
-    ensures { result ≡ open_of machines }
+#[tactic(auto, using(promise::proofs::Refusals::no_yes), unfolding(promise::specs::DeskCalls::open_of))]
+pub fn open(machines: u32) -> Outcome<()>
+    ensures { as_desked result ≡ open_of machines }
 {
-    let count = rows::count_fault(machines);
-    if count.number != 0 {
-        return Desked {
-            answer: count,
-            desk: empty(1),
-        };
-    }
-    Desked {
-        answer: count,
-        desk: empty(machines),
-    }
+    let answer = rows::count_fault(machines);
+    let desk = empty(if answer.is_ok() { machines } else { 1 });
+    Outcome { answer, desk }
 }
 
 // A 12 if the record is not sound.
-pub fn sound_fault(desk: Desk) -> Answer
-    ensures { result ≡ sound_fault desk }
+#[tactic(auto, unfolding(promise::specs::DeskCalls::sound_fault))]
+pub fn sound_fault(desk: &Desk) -> Result<(), Refusal>
+    ensures { as_answer result ≡ sound_fault desk.now }
 {
     if sound::is_sound(desk) {
-        return rows::accept();
+        return Ok(());
     }
-    rows::refuse(12, 0, 0)
-}
-
-// The last slot that a job may be due in.
-fn last_due(clock: u32) -> u32
-    requires { clock ≤ 100000 }
-    ensures { result ≡ min (clock + 168) 100000 }
-{
-    if clock + 168 < 100000 {
-        return clock + 168;
-    }
-    100000
+    Err(Refusal::NotSound)
 }
 
 // A 5 if the number is held, an 8 if all seats are.
-fn seat_fault(desk: Desk, n: usize, number: u32) -> Answer
-    requires { (n ≤ 32) × (n ≡ length (held_of desk)) }
-    ensures { result ≡ seat_fault desk number }
+#[tactic(auto, using(crate::proofs::Laws::seat_laws))]
+fn seat_fault(desk: &Desk, number: u32) -> Result<(), Refusal>
+    ensures { as_answer result ≡ seat_fault desk.now number }
 {
-    if let Found::At(_) = seats::find(desk, n, number) {
-        return rows::refuse(5, 0, 0);
+    let held = sound::held(desk);
+    if seats::find(held, number).is_some() {
+        return Err(Refusal::SeenNumber { row: 0 });
     }
-    let full = 32 <= n;
-    if full {
-        return rows::refuse(8, 0, 0);
+    if held.len() == 32 {
+        return Err(Refusal::FullDesk);
     }
-    rows::accept()
+    Ok(())
 }
 
-// 12, 4, 5, 8.
-fn admit_fault(desk: Desk, j: Job) -> Answer
-    ensures { result ≡ admit_fault desk (as_job j) }
+// Admit's tests before the walk: 12, 4, 5, 8.
+#[tactic(auto, using(crate::proofs::Figures::early_clock, promise::proofs::Exits::exits), unfolding(crate::specs::Calls::admit_fault, promise::specs::DeskCalls::admit_dues))]
+fn admit_fault(desk: &Desk, j: Job) -> Result<(), Refusal>
+    ensures { as_answer result ≡ admit_fault desk.now (as_job j) }
 {
-    let unsound = sound_fault(desk);
-    if unsound.number != 0 {
-        return unsound;
-    }
-    let fields = rows::fields_fault(0, j, desk.clock + 1, last_due(desk.clock));
-    if fields.number != 0 {
-        return fields;
-    }
-    seat_fault(desk, sound::held_count(desk), j.number)
+    sound_fault(desk)?;
+    let last_due = (desk.clock + 168).min(100000);
+    rows::fields_fault(0, j, desk.clock + 1, last_due)?;
+    seat_fault(desk, j.number)
 }
 
 // The job that is asked for, as it is seated.
+#[tactic(auto, using(crate::proofs::Figures::new_made))]
 fn new_held(clock: u32, j: Job) -> Held
     ensures { result ≡ new_held clock (as_job j) }
 {
@@ -103,157 +103,143 @@ fn new_held(clock: u32, j: Job) -> Held
         left: j.work,
         deadline: j.deadline,
         bound: j.bound,
-        slots: figures::less(j.deadline, clock),
+        slots: j.deadline.saturating_sub(clock),
     }
 }
 
-// A 7 if the walk came to a short boundary, named by its slot on the clock.
-fn desk_fit(clock: u32, fit: Fit) -> Answer
-    requires { (clock ≤ 100000) × Near fit }
-    ensures { result ≡ desk_fit clock (as_short fit) }
+// The held jobs, as they count for planning.
+#[tactic(auto, unfolding(promise::specs::Desk::jobs_for))]
+fn held_jobs(desk: &Desk) -> Jobs
+    ensures { as_jobs result.items ≡ jobs_for desk.now }
 {
-    match fit {
-        Fit::Fits => rows::accept(),
-        Fit::Short(place, amount) => rows::refuse(7, clock + place, amount),
-    }
+    sound::jobs_of(sound::held(desk), desk.machines, desk.clock)
+}
+
+// A 7 if the held jobs have no schedule, named by its slot on the clock.
+#[tactic(auto, using(crate::proofs::Laws::near))]
+fn fit_fault(desk: &Desk) -> Result<(), Refusal>
+    requires clock { desk.now.clock ≤ 100000 }
+    requires machines { desk.now.machines ≤ 64 }
+    requires small { All InRange (jobs_for desk.now) }
+    ensures { as_answer result ≡ desk_fit desk.now.clock (least_short desk.now.machines (jobs_for desk.now)) }
+{
+    walk::walk(&held_jobs(desk), desk.machines).map_err(|short| Refusal::NoFit {
+        boundary: desk.clock + short.boundary,
+        shortage: short.amount,
+    })
+}
+
+// The desk with the job in its seat, if a schedule of all held work and its own exists.
+#[tactic(auto, using(crate::proofs::Laws::admitted_laws), unfolding(promise::specs::Desk::desk_of))]
+fn admitted(desk: Desk, j: Job) -> Result<((), Desk), Refusal>
+    ensures answer { as_answer result ≡ admit_answer desk (as_job j) }
+    ensures next { IfOk result (λ told. told.1 ≡ desk_of desk.machines desk.clock (with_new desk (as_job j))) }
+{
+    admit_fault(&desk, j)?;
+    let next = seats::seat_in(desk, sound::held(&desk).len(), new_held(desk.clock, j));
+    fit_fault(&next)?;
+    Ok(((), next))
 }
 
 // Admit: the job in its seat if a schedule of all held work and its own exists.
-pub fn admit(desk: Desk, j: Job) -> Desked
-    ensures { result ≡ admit_of desk (as_job j) }
+#[tactic(auto, using(crate::proofs::Laws::admit_laws))]
+pub fn admit(desk: Desk, j: Job) -> Outcome<()>
+    ensures { as_desked result ≡ admit_of desk (as_job j) }
 {
-    let fault = admit_fault(desk, j);
-    if fault.number != 0 {
-        return Desked {
-            answer: fault,
-            desk,
-        };
-    }
-    let n = sound::held_count(desk);
-    let next = seats::seat_in(desk, n, new_held(desk.clock, j));
-    let fit = desk_fit(
-        desk.clock,
-        walk::walk(sound::jobs_of(next, n + 1), n + 1, desk.machines),
-    );
-    if fit.number != 0 {
-        return Desked { answer: fit, desk };
-    }
-    Desked {
-        answer: fit,
-        desk: next,
-    }
+    outcome(admitted(desk, j), desk)
+}
+
+// The seat of a job number, or 12, 10.
+#[tactic(auto, using(crate::proofs::Laws::found_laws))]
+fn found(desk: &Desk, number: u32) -> Result<usize, Refusal>
+    ensures answer { as_answer result ≡ find_answer desk.now number }
+    ensures seat { IfOk result (λ seat. find_in number 0 (held_of desk.now) ≡ Some seat) }
+{
+    sound_fault(desk)?;
+    let Some(seat) = seats::find(sound::held(desk), number) else {
+        return Err(Refusal::NotHeld);
+    };
+    Ok(seat)
+}
+
+// The remaining work of a job, and the desk without it.
+#[tactic(auto, using(crate::proofs::Laws::withdrawn_laws))]
+fn withdrawn(desk: Desk, number: u32) -> Result<(u32, Desk), Refusal>
+    ensures answer { as_answer result ≡ find_answer desk number }
+    ensures told { IfOk result (λ told. record { answer = yes; left = told.0; desk = told.1 } ≡ withdraw_of desk number) }
+{
+    let seat = found(&desk, number)?;
+    Ok((desk.seats[seat].left, seats::take_out(desk, seat, number)))
 }
 
 // Withdraw: the desk without the job, and its remaining work.
-pub fn withdraw(desk: Desk, number: u32) -> Withdrawn
-    ensures { result ≡ withdraw_of desk number }
+#[tactic(auto, using(crate::proofs::Laws::withdraw_refused))]
+pub fn withdraw(desk: Desk, number: u32) -> Outcome<u32>
+    ensures { as_withdrawn result ≡ withdraw_of desk number }
 {
-    let unsound = sound_fault(desk);
-    if unsound.number != 0 {
-        return Withdrawn {
-            answer: unsound,
-            left: 0,
-            desk,
-        };
-    }
-    let n = sound::held_count(desk);
-    let Found::At(i) = seats::find(desk, n, number) else {
-        let unknown = rows::refuse(10, 0, 0);
-        return Withdrawn {
-            answer: unknown,
-            left: 0,
-            desk,
-        };
-    };
-    let gone = desk.seats[i];
-    Withdrawn {
-        answer: unsound,
-        left: gone.left,
-        desk: seats::take_out(desk, n, i, number),
-    }
+    outcome(withdrawn(desk, number), desk)
 }
 
 // 100 × slots at admission / run length of the admitted work.
-fn leeway_of(h: Held, machines: u32) -> u32
-    requires { (1 ≤ machines) × (h.slots ≤ 168) × (1 ≤ h.work) × (1 ≤ h.bound) }
-    ensures { result ≡ leeway machines h }
+#[tactic(auto, using(crate::proofs::Figures::leeway_laws))]
+fn leeway_of(held: &Held, machines: u32) -> u32
+    requires { (1 ≤ machines) × (held.now.slots ≤ 168) × (1 ≤ held.now.work) × (1 ≤ held.now.bound) }
+    ensures { result ≡ leeway machines held.now }
 {
-    100 * h.slots / figures::run_length(h.work, figures::width(machines, h.bound))
+    100 * held.slots / figures::run_length(held.work, figures::width(machines, held.bound))
+}
+
+// What Look tells of a held job.
+fn figures_of(held: &Held, machines: u32) -> Figures
+    requires { (1 ≤ machines) × (held.now.slots ≤ 168) × (1 ≤ held.now.work) × (1 ≤ held.now.bound) }
+    ensures { result ≡ told machines held.now }
+{
+    Figures {
+        left: held.left,
+        deadline: held.deadline,
+        bound: held.bound,
+        leeway: leeway_of(held, machines),
+    }
 }
 
 // Look: what is left of a job, its deadline, bound and leeway.
-pub fn look(desk: Desk, number: u32) -> Looked
-    ensures { result ≡ look_of desk number }
+#[tactic(auto, using(crate::proofs::Laws::look_laws))]
+pub fn look(desk: Desk, number: u32) -> Outcome<Figures>
+    ensures { as_looked result ≡ look_of desk number }
 {
-    let unsound = sound_fault(desk);
-    if unsound.number != 0 {
-        return Looked {
-            answer: unsound,
-            left: 0,
-            deadline: 0,
-            bound: 0,
-            leeway: 0,
-            desk,
-        };
-    }
-    let Found::At(i) = seats::find(desk, sound::held_count(desk), number) else {
-        let unknown = rows::refuse(10, 0, 0);
-        return Looked {
-            answer: unknown,
-            left: 0,
-            deadline: 0,
-            bound: 0,
-            leeway: 0,
-            desk,
-        };
-    };
-    let h = desk.seats[i];
-    Looked {
-        answer: unsound,
-        left: h.left,
-        deadline: h.deadline,
-        bound: h.bound,
-        leeway: leeway_of(h, desk.machines),
+    Outcome {
+        answer: found(&desk, number).map(|seat| figures_of(&desk.seats[seat], desk.machines)),
         desk,
     }
 }
 
-// 12, 11.
-fn run_fault(desk: Desk) -> Answer
-    ensures { result ≡ run_answer desk }
+// Run's tests: 12, 11.
+#[tactic(auto, using(promise::proofs::Exits::exits), unfolding(promise::specs::DeskCalls::run_answer))]
+fn run_fault(desk: &Desk) -> Result<(), Refusal>
+    ensures { as_answer result ≡ run_answer desk.now }
 {
-    let unsound = sound_fault(desk);
-    if unsound.number != 0 {
-        return unsound;
+    sound_fault(desk)?;
+    if desk.clock == 100000 {
+        return Err(Refusal::ClockAtEnd);
     }
-    let at_the_end = desk.clock == 100000;
-    if at_the_end {
-        return rows::refuse(11, 0, 0);
-    }
-    rows::accept()
+    Ok(())
+}
+
+// The pairs of slot 1 of the plan, and the desk after it.
+#[tactic(auto, using(crate::proofs::Runs::before_the_end))]
+fn ran(desk: Desk) -> Result<([Given; 32], Desk), Refusal>
+    ensures answer { as_answer result ≡ run_answer desk }
+    ensures told { IfOk result (λ told. record { answer = yes; given = told.0; desk = told.1 } ≡ run_of desk) }
+{
+    run_fault(&desk)?;
+    let shares = slot::first_slot(&held_jobs(&desk), desk.machines);
+    Ok((slot::pairs_of(&shares), slot::after_slot(desk, &shares)))
 }
 
 // Run: slot 1 of the plan given out, and the desk after it.
-pub fn run(desk: Desk) -> Ran
-    ensures { result ≡ run_of desk }
+#[tactic(auto, using(crate::proofs::Runs::run_refused), unfolding(promise::specs::DeskCalls::pairs))]
+pub fn run(desk: Desk) -> Outcome<[Given; 32]>
+    ensures { as_ran result ≡ run_of desk }
 {
-    let answer = run_fault(desk);
-    if answer.number != 0 {
-        let none = Given {
-            number: 0,
-            machines: 0,
-        };
-        return Ran {
-            answer,
-            given: [none; 32],
-            desk,
-        };
-    }
-    let n = sound::held_count(desk);
-    let table = slot::first_slot(sound::jobs_of(desk, n), n, desk.machines);
-    Ran {
-        answer,
-        given: slot::pairs_of(table, n),
-        desk: slot::after_slot(desk, table, n),
-    }
+    outcome(ran(desk), desk)
 }

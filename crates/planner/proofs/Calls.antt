@@ -1,110 +1,124 @@
 -- Plan and Room, from the answers of their parts.
 use Prim.Native.Nat.{ℕ, ◌*◌, ◌≤◌, ◌<◌}
+use native.Mathlib.Nat.{mul-le-mul}
 use native.Mathlib.Omega.{arith}
-use mathlib.Core.Path.{◌≡◌, refl, sym, ◌∙◌, ap}
-use mathlib.Core.Logic.{◌≢◌}
-use mathlib.Core.Bool.{cond}
+use mathlib.Core.Path.{◌≡◌, refl, sym, ap, ◌∙◌}
 use mathlib.Core.List.{List}
-use mathlib.Core.Option.{Option, some, none}
-use lib.Dec.{ltb}
 use lib.IntN.{ℤ, pos}
-use lib.ListN.{length}
+use lib.ListN.{length, length-map}
+use mir.Syntax.{w32}
+use mir.Val.{to_z, of_z}
 use borrow.Author.Tests.{eq-eqb, ne_eqb, lt-ltb, le-ltb}
-use Rattle.model.specs.Jobs as Model
-use Rattle.model.specs.Jobs.{room}
-use Rattle.model.specs.Boundaries.{Short, least_short}
+use Rattle.model.specs.Jobs.{numbers, counted, forced, room, room_of}
+use Rattle.model.specs.Lists.{All, Distinct}
+use Rattle.model.specs.Boundaries.{least_short}
 use Rattle.model.specs.Rule.{plan_rows}
 use Rattle.model.proofs.Lists.{All-map}
-use Rattle.promise.specs.declared.Answer.{Answer}
-use Rattle.promise.specs.Answers.{yes, refusal, first, fit_answer}
-use Rattle.promise.specs.Rows.{row_count, list_fault, list_order}
-use Rattle.promise.specs.Lists.{planned, Holds, answer_of, plan_answer, plan_buffer, written, PlanPromise, room_answer, room_figure, RoomPromise}
-use Rattle.promise.proofs.Ladder.{zero_yes, same_number, first_stop}
-use Rattle.promise.proofs.Table.{refuses, gives_list}
-use Rattle.promise.proofs.Sound.{Passes, listed_passes, planned_distinct, planned_in_range, few_machines, few_rows}
+use Rattle.promise.specs.Answers.{yes, refusal, fit_answer}
+use Rattle.promise.specs.Rows.{row_count, jobs_of, list_fault, list_order}
+use Rattle.promise.specs.Lists.{planned, plan_answer, plan_buffer, written, room_answer, room_figure}
+use Rattle.promise.proofs.Ladder.{first_stop}
+use Rattle.promise.proofs.Sound.{Passes, listed_passes, planned_distinct, planned_in_range, planned_deadlines, few_machines, few_rows}
+use Rattle.promise.proofs.Refusals.{is_refusal}
+use Rattle.promise.proofs.Bounds.{planned_forced}
+use Rattle.promise.proofs.FileOrder.{jobs_length}
 use Rattle.promise.proofs.Buffer.{refusal_writes_nothing}
-use Rattle.walk.specs.declared.Jobs.{Jobs}
-use Rattle.walk.specs.Walk.{as_jobs, Small}
-use Rattle.planner.specs.Writing.{Plannable}
+use Rattle.figures.specs.declared.Job.{Job}
+use Rattle.figures.specs.Jobs.{as_job, as_jobs}
+use Rattle.figures.proofs.Signed.{back, sub_mag}
+use Rattle.walk.specs.Walk.{Small}
 
-module _ (machines : ℕ) (rows : List ℕ) (f : Answer) (checked : f ≡ list_fault machines rows) where
-  -- a list that is in order
-  module _ (good : f.number ≡ 0) where
-    pub listed : list_fault machines rows ≡ yes
-    listed = zero_yes (Holds machines rows) (answer_of machines rows) (refuses machines rows) (list_order rows) (list_fault machines rows) (rw checked at good) (gives_list machines rows)
+module _ (machines : ℕ) (rows : List ℕ) where
+  -- a list that is in order, and the jobs loaded from it
+  module _ (listed : yes ≡ list_fault machines rows) where
+    passes : Passes machines rows (list_order rows)
+    passes = listed_passes machines rows (sym listed)
 
-    pub passes : Passes machines rows (list_order rows)
-    passes = listed_passes machines rows listed
+    pub few_listed : row_count rows ≤ 32
+    few_listed = few_rows machines rows passes
 
-    pub short_list : row_count rows ≤ 32
-    short_list = few_rows machines rows passes
+    pub room_listed : machines ≤ 64
+    room_listed = few_machines machines rows passes
 
-    -- the jobs that were loaded can be walked and planned
-    module _ (n : ℕ) (jobs : Jobs) (loaded : as_jobs n jobs ≡ planned machines rows) where
-      pub loaded_small : (machines ≤ 64) × Small n jobs
-      loaded_small = (few_machines machines rows passes, rw loaded (planned_in_range machines rows passes))
+    module _ (jobs : List Job) (loaded : as_jobs jobs ≡ planned machines rows) where
+      pub loaded_count : length jobs ≡ row_count rows
+      unfolding planned counted
+      loaded_count = sym (length-map jobs as_job) ∙ ap length loaded ∙ length-map (jobs_of rows) _ ∙ jobs_length rows
 
-      pub loaded_plannable : Plannable n jobs
-      loaded_plannable = record {
-        apart = rw loaded (planned_distinct machines rows passes);
-        bounds = rw loaded (All-map (λ j r. r.2) (planned machines rows) (planned_in_range machines rows passes));
-        deadlines = rw loaded (All-map (λ j r. r.1) (planned machines rows) (planned_in_range machines rows passes));
-      }
+      pub loaded_small : Small jobs
+      loaded_small = rw loaded (planned_in_range machines rows passes)
 
+      pub loaded_apart : Distinct (numbers (as_jobs jobs))
+      loaded_apart = rw loaded (planned_distinct machines rows passes)
+
+      pub loaded_bounds : All (λ j. j.bound ≤ 64) (as_jobs jobs)
+      loaded_bounds = rw loaded (All-map (λ j r. r.2) (planned machines rows) (planned_in_range machines rows passes))
+
+      pub loaded_deadlines : All (λ j. j.deadline ≤ 168) (as_jobs jobs)
+      loaded_deadlines = rw loaded (planned_deadlines machines rows passes)
+
+  -- Plan's answer: the list's, else a 6, else the walk's
   module _ (lent : List ℕ) where
-    refused : (a : Answer) → a ≡ plan_answer machines rows (length lent) → a.number ≢ 0 → PlanPromise machines rows lent a lent
-    refused a e h = record { answered = e; left = sym ((refusal_writes_nothing machines rows lent).0 (λ z. h (same_number e ∙ z))) }
-
-    pub plan_fault : f.number ≢ 0 → PlanPromise machines rows lent f lent
+    pub answer_fault : 1 ≤ (list_fault machines rows).number → plan_answer machines rows (length lent) ≡ list_fault machines rows
     unfolding plan_answer
-    plan_fault h = refused f (first_stop f (list_fault machines rows) _ checked h) h
+    answer_fault h = sym (first_stop (list_fault machines rows) (list_fault machines rows) _ refl (λ z. omega arith))
 
-    pub plan_short_buffer : f.number ≡ 0 → length lent < 168 * row_count rows → (r : Answer) → r ≡ refusal 6 0 0 → PlanPromise machines rows lent r lent
-    unfolding plan_answer
-    plan_short_buffer g l r e =
-        refused r (e ∙ rw (listed g, lt-ltb (length lent) (168 * row_count rows) l) refl) (λ z. let w : 6 ≡ 0 = sym (same_number e) ∙ z in omega arith)
-
-    -- the list is in order and the buffer long enough: the answer is that of the walk
-    module _ (g : f.number ≡ 0) (l : 168 * row_count rows ≤ length lent) (a : Answer) (e : a ≡ fit_answer (least_short machines (planned machines rows))) where
-      fits : a ≡ plan_answer machines rows (length lent)
+    module _ (listed : yes ≡ list_fault machines rows) where
+      pub answer_short : length lent < 168 * row_count rows → plan_answer machines rows (length lent) ≡ refusal 6 0 0
       unfolding plan_answer
-      fits = e ∙ rw (listed g, le-ltb (length lent) (168 * row_count rows) l) refl
+      answer_short l = rw (← listed, lt-ltb (length lent) (168 * row_count rows) l) refl
 
-      pub plan_seven : a.number ≢ 0 → PlanPromise machines rows lent a lent
-      plan_seven h = refused a fits h
+      pub answer_fit : 168 * row_count rows ≤ length lent → plan_answer machines rows (length lent) ≡ fit_answer (least_short machines (planned machines rows))
+      unfolding plan_answer
+      answer_fit l = rw (← listed, le-ltb (length lent) (168 * row_count rows) l) refl
 
-      pub plan_yes : a.number ≡ 0 → (r : Answer) → r ≡ yes → (n : ℕ) (jobs : Jobs) → n ≡ row_count rows → as_jobs n jobs ≡ planned machines rows
-          → (after : List ℕ) → after ≡ written (plan_rows machines (as_jobs n jobs)) n lent → PlanPromise machines rows lent r after
-      unfolding plan_buffer
-      plan_yes z r er n jobs en loaded after ea = record {
-        answered = er ∙ sym (yes_of (least_short machines (planned machines rows)) (sym (same_number e) ∙ z)) ∙ sym e ∙ fits;
-        left =
-            ea ∙ ap (λ (js : List Model.Job). written (plan_rows machines js) n lent) loaded ∙ ap (λ (k : ℕ). written (plan_rows machines (planned machines rows)) k lent) en
-            ∙ sym (rw (eq-eqb (plan_answer machines rows (length lent)).number 0 (sym (same_number fits) ∙ z)) refl);
-      }
-        where
-          yes_of : (o : Option Short) → (fit_answer o).number ≡ 0 → fit_answer o ≡ yes
-          yes_of none h = refl
-          yes_of (some s) h = absurd (omega arith)
+    -- and the buffer after it
+    pub buffer_kept : 1 ≤ (plan_answer machines rows (length lent)).number → plan_buffer machines rows lent ≡ lent
+    buffer_kept h = (refusal_writes_nothing machines rows lent).0 (λ z. omega arith)
 
-  -- Room
+    pub buffer_written : (plan_answer machines rows (length lent)).number ≡ 0
+        → plan_buffer machines rows lent ≡ written (plan_rows machines (planned machines rows)) (row_count rows) lent
+    unfolding plan_buffer
+    buffer_written z = rw (eq-eqb (plan_answer machines rows (length lent)).number 0 z) refl
+
+  -- Room's answer: the list's, else a 9; and its figure
   module _ (b : ℕ) where
-    room_refused : (a : Answer) → a ≡ room_answer machines rows b → a.number ≢ 0 → RoomPromise machines rows b (record { answer = a; room = pos 0 })
+    pub room_fault : 1 ≤ (list_fault machines rows).number → room_answer machines rows b ≡ list_fault machines rows
+    unfolding room_answer
+    room_fault h = sym (first_stop (list_fault machines rows) (list_fault machines rows) _ refl (λ z. omega arith))
+
+    pub no_figure : 1 ≤ (room_answer machines rows b).number → room_figure machines rows b ≡ pos 0
     unfolding room_figure
-    room_refused a e h = record { answered = e; figure = sym (rw (ne_eqb (room_answer machines rows b).number 0 (λ z. h (same_number e ∙ z))) refl) }
+    no_figure h = rw (ne_eqb (room_answer machines rows b).number 0 (λ z. omega arith)) refl
 
-    pub room_fault : f.number ≢ 0 → RoomPromise machines rows b (record { answer = f; room = pos 0 })
-    unfolding room_answer
-    room_fault h = room_refused f (first_stop f (list_fault machines rows) _ checked h) h
+    module _ (listed : yes ≡ list_fault machines rows) where
+      pub room_far : 168 < b → room_answer machines rows b ≡ refusal 9 0 0
+      unfolding room_answer
+      room_far l = rw (← listed, lt-ltb 168 b l) refl
 
-    pub room_far : f.number ≡ 0 → 168 < b → (r : Answer) → r ≡ refusal 9 0 0 → RoomPromise machines rows b (record { answer = r; room = pos 0 })
-    unfolding room_answer
-    room_far g l r e = room_refused r (e ∙ rw (listed g, lt-ltb 168 b l) refl) (λ z. let w : 9 ≡ 0 = sym (same_number e) ∙ z in omega arith)
+      module _ (near : b ≤ 168) where
+        pub room_near : room_answer machines rows b ≡ yes
+        unfolding room_answer
+        room_near = rw (← listed, le-ltb 168 b near) refl
 
-    pub room_yes : f.number ≡ 0 → b ≤ 168 → (r : Answer) → r ≡ yes → (z : ℤ) → z ≡ room machines (planned machines rows) b
-        → RoomPromise machines rows b (record { answer = r; room = z })
-    unfolding room_answer room_figure
-    room_yes g l r e z ez = record { answered = e ∙ sym answer; figure = ez ∙ sym (rw (answer) refl) }
-      where
-        answer : first (list_fault machines rows) (cond (ltb 168 b) (refusal 9 0 0) yes) ≡ yes
-        answer = rw (listed g, le-ltb 168 b l) refl
+        pub the_figure : room_figure machines rows b ≡ room_of (machines * b) (forced (planned machines rows) b)
+        unfolding room_figure room
+        the_figure = rw (room_near) refl
+
+        pub capacity_small : machines * b ≤ 10752
+        capacity_small = mul-le-mul (room_listed listed) near
+
+        pub forced_small : forced (planned machines rows) b ≤ 1920000
+        forced_small = planned_forced machines rows (passes listed) b
+
+        -- the room fits an i32
+        pub room_back : (z : ℤ) → z ≡ room_of (machines * b) (forced (planned machines rows) b) → to_z w32 (of_z w32 z) ≡ z
+        room_back z e =
+            back z (rw e (sub_mag (machines * b) (forced (planned machines rows) b) 2147483648 (omega (arith, capacity_small)) (omega (arith, forced_small))))
+
+-- what the goals of both calls want, and those of each
+pub ruleset listed_jobs = (is_refusal, few_listed, room_listed, loaded_small)
+
+pub ruleset plan_steps = (listed_jobs, loaded_count, loaded_apart, loaded_bounds, loaded_deadlines, answer_fault, answer_short, answer_fit, buffer_kept, buffer_written)
+
+pub ruleset room_steps = (listed_jobs, room_fault, no_figure, room_far, room_near, the_figure, capacity_small, forced_small, room_back)

@@ -1,3 +1,3 @@
-pub mod Writing
 pub mod Shares
+pub mod Writing
 pub mod Calls

@@ -18,22 +18,24 @@ use Rattle.model.proofs.Rows.{rows_are_the_plan}
 use Rattle.model.proofs.Start.{start_plays_no_part}
 use Rattle.promise.specs.Lists.{written}
 use Rattle.promise.proofs.Buffer.{flat_length, flat_at, span_length, span_at}
-use Rattle.planner.specs.Writing.{column_of}
-
--- the place of slot t in row i
-at : ℕ → ℕ → ℕ
-at i t = 168 * i + t - 1
+use Rattle.figures.specs.declared.Job.{Job}
+use Rattle.figures.specs.Jobs.{as_job, as_jobs}
+use Rattle.rule.specs.declared.Share.{Share}
+use Rattle.rule.specs.Shares.{as_shares, fresh_of}
+use Rattle.planner.specs.Writing.{column_of, Plannable}
+use Rattle.planner.proofs.Shares.{start_shares, start_theirs, refilled, apart_still, jobs_still, slim_still}
 
 pub column_length : (t i : ℕ) (ps : List Model.Share) (plan : List ℕ) → length (column_of t i ps plan) ≡ length plan
 column_length t i [] plan = refl
 column_length t i (p ∷ ps) plan = column_length t (suc i) ps (set plan (168 * i + t - 1) p.given) ∙ length-set plan (168 * i + t - 1) p.given
 
 -- slots t down to 1 filled with C machines each, and written
-abbrev pub write_from : ℕ → ℕ → List Model.Share → List ℕ → List ℕ
+unfoldable pub write_from : ℕ → ℕ → List Model.Share → List ℕ → List ℕ
 write_from C zero ps plan = plan
 write_from C (suc t) ps plan = write_from C t (fill C (suc t) ps) (column_of (suc t) 0 (fill C (suc t) ps) plan)
 
 pub write_length : (C t : ℕ) (ps : List Model.Share) (plan : List ℕ) → length (write_from C t ps plan) ≡ length plan
+unfolding write_from
 write_length C zero ps plan = refl
 write_length C (suc t) ps plan =
     write_length C t (fill C (suc t) ps) (column_of (suc t) 0 (fill C (suc t) ps) plan) ∙ column_length (suc t) 0 (fill C (suc t) ps) plan
@@ -79,6 +81,7 @@ module _ (C i s : ℕ) (hs : s < 168) where
   write_cell : (t : ℕ) (ps : List Model.Share) (plan : List ℕ) → Distinct (numbers_of ps) → i < length ps → t ≤ 168 → 168 * length ps ≤ length plan
       → (s < t → get_or (write_from C t ps plan) (168 * i + s) 0 ≡ cell (λ r. C) t ps (get_or (numbers_of ps) i 0) (suc s))
       × (t ≤ s → get_or (write_from C t ps plan) (168 * i + s) 0 ≡ get_or plan (168 * i + s) 0)
+  unfolding write_from
   write_cell zero ps plan d l h k = ((λ a. absurd (omega arith)), λ a. refl)
   write_cell (suc t) ps plan d l h k =
       let r =
@@ -109,6 +112,7 @@ module _ (C i s : ℕ) (hs : s < 168) where
 
 -- past the rows nothing is written
 write_beyond : (C t : ℕ) (ps : List Model.Share) (plan : List ℕ) (k : ℕ) → t ≤ 168 → 168 * length ps ≤ k → get_or (write_from C t ps plan) k 0 ≡ get_or plan k 0
+unfolding write_from
 write_beyond C zero ps plan k h l = refl
 write_beyond C (suc t) ps plan k h l =
     write_beyond C t (fill C (suc t) ps) (column_of (suc t) 0 (fill C (suc t) ps) plan) k (omega arith) (omega (arith, same_length C (suc t) ps))
@@ -193,9 +197,18 @@ module _ (C : ℕ) (jobs : List Jobs.Job) (apart : Distinct (numbers jobs)) (dea
                 rw e at (in_rows (k / 168) (k % 168) (omega arith) (omega arith))
             go (no h) = past_rows k (omega arith)
 
+-- with nothing filled yet
+pub write_begin : (C : ℕ) (jobs : List Job) (shares : List Share) (lent : List ℕ) → Plannable jobs → shares ≡ map fresh_of jobs → 168 * length jobs ≤ length lent
+    → write_from C 168 (as_shares shares) lent ≡ written (plan_rows C (as_jobs jobs)) (length jobs) lent
+write_begin C jobs shares lent p e long =
+    ap (λ (ps : List Model.Share). write_from C 168 ps lent) (start_shares jobs shares e)
+    ∙ writes_the_rows C (as_jobs jobs) p.apart p.deadlines lent (omega (arith, length-map jobs as_job))
+    ∙ ap (λ (n : ℕ). written (plan_rows C (as_jobs jobs)) n lent) (length-map jobs as_job)
+
 -- one slot filled and written
 pub write_step : (C t : ℕ) (ps qs : List Model.Share) (plan plan' : List ℕ) → 0 < t → qs ≡ fill C t ps → plan' ≡ column_of t 0 qs plan
     → write_from C t ps plan ≡ write_from C (t - 1) qs plan'
+unfolding write_from
 write_step C zero ps qs plan plan' h e f = absurd (omega arith)
 write_step C (suc t) ps qs plan plan' h e f =
     let z : suc t - 1 ≡ t = omega arith in
@@ -203,4 +216,8 @@ write_step C (suc t) ps qs plan plan' h e f =
 
 -- nothing left to fill
 pub write_end : (C t : ℕ) (ps : List Model.Share) (plan : List ℕ) → t ≡ 0 → write_from C t ps plan ≡ plan
+unfolding write_from
 write_end C t ps plan e = rw e refl
+
+-- what the goals of the loop over the slots want
+pub ruleset slot_steps = (start_theirs, refilled, apart_still, jobs_still, slim_still, write_begin, write_step, write_end)

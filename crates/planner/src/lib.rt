@@ -1,137 +1,81 @@
 // The planner: Room and Plan over a lent list, and the plan written row by row, slot by slot.
 #![tactic(auto)]
 
-ghost use Rattle.std.specs.Prelude.{◌≡◌, map, ◌*◌, ◌≤◌, ◌<◌, length, set};
+ghost use Rattle.std.specs.Prelude.{◌≡◌, map, ◌*◌, ◌≤◌, ◌<◌, length};
 ghost use Rattle.model.specs.Rule.{plan_rows};
-ghost use Rattle.rule.specs.Shares.{shares_of};
-ghost use Rattle.walk.specs.Walk.{as_jobs, as_short};
-ghost use Rattle.promise.specs.Answers.{fit_answer};
+ghost use Rattle.figures.specs.Jobs.{as_jobs};
+ghost use Rattle.rule.specs.Shares.{as_shares, fresh_of};
 ghost use Rattle.promise.specs.Lists.{written, PlanPromise, RoomPromise};
-ghost use Rattle.planner.specs.Writing.{fresh_of, column_of, Slim, Plannable};
+ghost use Rattle.promise.specs.Refusals.{as_answer, as_room_answer};
+ghost use Rattle.planner.specs.Writing.{column_of, Slim, Plannable};
 
-use figures::Job;
-use promise::{Answer, RoomAnswer};
-use rule::{Share, Table};
-use walk::{Fit, Jobs};
+use figures::Jobs;
+use promise::Refusal;
+use rule::{Share, Shares};
 
-// The shares before any slot is filled.
-pub fn start(list: Jobs) -> Table
-    ensures { result.shares ≡ map fresh_of list.jobs }
+// The shares of the jobs before any slot is filled.
+#[tactic(auto, using(crate::proofs::Shares::fresh_more))]
+pub fn start(jobs: &Jobs) -> Shares
+    ensures { result.items ≡ map fresh_of jobs.now.items }
 {
-    let job = Job {
-        number: 0,
-        work: 0,
-        deadline: 0,
-        bound: 0,
-    };
-    let none = Share {
-        job,
-        left: 0,
-        given: 0,
-    };
-    let mut table = Table { shares: [none; 32] };
-    let mut i: usize = 0;
-    while i < 32 {
-        let job = list.jobs[i];
-        let p = Share {
-            job,
-            left: job.work,
-            given: 0,
-        };
-        table.shares[i] = p;
-        i += 1;
+    let mut shares = Shares::new();
+    for job in jobs.iter() {
+        shares.push(Share::new(*job));
     }
-    table
+    shares
 }
 
-fn put(plan: &mut [u16], at: usize, machines: u32)
-    requires { (at < length plan.old) × (machines ≤ 65535) }
-    ensures { plan.new ≡ set plan.old at machines }
+// The machines of slot t written into the rows of the shares.
+#[tactic(auto, using(crate::proofs::Shares::column_step, crate::proofs::Shares::slim_at))]
+fn write_slot(shares: &[Share], t: u32, plan: &mut [u16])
+    requires slot { (1 ≤ t) × (t ≤ 168) }
+    requires rows { 168 * length shares.now ≤ length plan.old }
+    requires slim { Slim shares.now }
+    ensures { plan.new ≡ column_of t 0 (as_shares shares.now) plan.old }
 {
-    plan[at] = machines as u16;
-}
-
-// The machines of slot t written into the rows of the first n shares.
-fn write_slot(table: Table, n: usize, t: u32, plan: &mut [u16])
-    requires { (n ≤ 32) × (1 ≤ t) × (t ≤ 168) × (168 * n ≤ length plan.old) × Slim n table }
-    ensures { plan.new ≡ column_of t 0 (shares_of n table) plan.old }
-{
-    let mut i: usize = 0;
-    while i < n {
-        let p = table.shares[i];
-        put(&mut *plan, 168 * i + t as usize - 1, p.given);
-        i += 1;
+    for (i, share) in shares.iter().enumerate() {
+        plan[168 * i + t as usize - 1] = share.given as u16;
     }
 }
 
-// The plan of the first n jobs, written into the lent buffer.
-fn write_plan(list: Jobs, n: usize, machines: u32, plan: &mut [u16])
-    requires { (n ≤ 32) × (168 * n ≤ length plan.old) × Plannable n list }
-    ensures { plan.new ≡ written (plan_rows machines (as_jobs n list)) n plan.old }
+// The plan of the jobs, written into the lent buffer.
+#[tactic(auto, using(crate::proofs::Writing::slot_steps))]
+fn write_plan(jobs: &Jobs, machines: u32, plan: &mut [u16])
+    requires rows { 168 * length jobs.now.items ≤ length plan.old }
+    requires plannable { Plannable jobs.now.items }
+    ensures { plan.new ≡ written (plan_rows machines (as_jobs jobs.now.items)) (length jobs.now.items) plan.old }
 {
-    let mut table = start(list);
-    let mut t: u32 = 168;
-    while 0 < t {
-        table = rule::fill_slot(table, n, t, machines);
-        write_slot(table, n, t, &mut *plan);
-        t -= 1;
-    }
-}
-
-// A 7 if the walk came to a short boundary.
-fn fit_answer(fit: Fit) -> Answer
-    ensures { result ≡ fit_answer (as_short fit) }
-{
-    match fit {
-        Fit::Fits => rows::accept(),
-        Fit::Short(place, amount) => rows::refuse(7, place, amount),
+    let mut shares = start(jobs);
+    for t in (1..=168).rev() {
+        rule::fill_slot(&mut shares, t, machines);
+        write_slot(&shares, t, plan);
     }
 }
 
 // Plan: the answer, and on a yes the plan of the rule in the lent buffer.
-pub fn plan(machines: u32, list: &[u32], plan: &mut [u16]) -> Answer
-    ensures { PlanPromise machines list.now plan.old result plan.new }
+#[tactic(auto, using(crate::proofs::Calls::plan_steps), unfolding(promise::specs::Rows::row_count))]
+pub fn plan(machines: u32, list: &[u32], plan: &mut [u16]) -> Result<(), Refusal>
+    ensures { PlanPromise machines list.now plan.old (as_answer result) plan.new }
 {
-    let fault = rows::list_fault(machines, list);
-    if fault.number != 0 {
-        return fault;
-    }
-    let n = list.len() / 4;
-    if plan.len() < 168 * n {
-        return rows::refuse(6, 0, 0);
+    rows::list_fault(machines, list)?;
+    if plan.len() < 168 * (list.len() / 4) {
+        return Err(Refusal::ShortBuffer);
     }
     let jobs = rows::load(list, machines);
-    let fit = fit_answer(walk::walk(jobs, n, machines));
-    let refused = fit.number != 0;
-    if refused {
-        return fit;
-    }
-    write_plan(jobs, n, machines, plan);
-    rows::accept()
+    walk::walk(&jobs, machines)?;
+    write_plan(&jobs, machines, plan);
+    Ok(())
 }
 
 // Room at any b from 0 to 168.
-pub fn room(machines: u32, list: &[u32], b: u32) -> RoomAnswer
-    ensures { RoomPromise machines list.now b result }
+#[tactic(auto, using(crate::proofs::Calls::room_steps), unfolding(promise::specs::Rows::row_count))]
+pub fn room(machines: u32, list: &[u32], b: u32) -> Result<i32, Refusal>
+    ensures { RoomPromise machines list.now b (as_room_answer result) }
 {
-    let fault = rows::list_fault(machines, list);
-    if fault.number != 0 {
-        return RoomAnswer {
-            answer: fault,
-            room: 0,
-        };
+    rows::list_fault(machines, list)?;
+    if 168 < b {
+        return Err(Refusal::FarBoundary);
     }
-    let far = 168 < b;
-    if far {
-        let over = rows::refuse(9, 0, 0);
-        return RoomAnswer {
-            answer: over,
-            room: 0,
-        };
-    }
-    let n = list.len() / 4;
     let jobs = rows::load(list, machines);
-    let room = figures::room_of(machines * b, walk::forced_by(jobs, n, b));
-    let answer = rows::accept();
-    RoomAnswer { answer, room }
+    Ok(figures::room_of(machines * b, walk::forced_by(&jobs, b)))
 }

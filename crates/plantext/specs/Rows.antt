@@ -1,33 +1,24 @@
--- The text of a reading, and the lines of rows whose plan stands in a buffer.
-use Rattle.std.specs.Prelude.{ℕ, zero, suc, ◌*◌, cond, List, [], ◌∷◌, ◌++◌, ltb, eqb, get_or, take, drop}
-use Rattle.promise.specs.declared.Reading.{Reading}
+-- The lines of rows whose plan stands in a buffer.
+use Rattle.std.specs.Prelude.{ℕ, zero, suc, ◌∷◌, ◌++◌, [], List, get_or, take, drop}
 use Rattle.promise.specs.declared.LineKind.TheVariants.{MachinesLine, JobLine}
-use Rattle.promise.specs.Answers.{refusal, first}
-use Rattle.promise.specs.Rows.{row_count, count_fault}
+use Rattle.promise.specs.Rows.{row_count}
 use Rattle.promise.specs.Texts.{ascii, newline}
 use Rattle.promise.specs.JobFile.{number_line}
-use Rattle.promise.specs.PlanText.{refusal_text, run_line, rows_text}
+use Rattle.promise.specs.PlanText.{run_line}
 
--- the two lines of row i
-unfoldable pub row_lines : List ℕ → List ℕ → ℕ → List ℕ
-row_lines rows plan i =
-    (number_line JobLine (get_or rows (4 * i) 0) ++ (newline ∷ [])) ++ (run_line (take 168 (drop (168 * i) plan)) ++ (newline ∷ []))
+-- the two lines of a job: its number, and its machines in slots 1, 2, ..
+unfoldable pub job_lines : ℕ → List ℕ → List ℕ
+job_lines number machines = (number_line JobLine number ++ (newline ∷ [])) ++ (run_line machines ++ (newline ∷ []))
 
--- n rows, from row i on
-abbrev pub rows_lines : List ℕ → List ℕ → ℕ → ℕ → List ℕ
-rows_lines rows plan i zero = []
-rows_lines rows plan i (suc n) = row_lines rows plan i ++ rows_lines rows plan (suc i) n
+-- the lines of the first n rows, four numbers to a row and 168 to its part of the plan
+abbrev pub lines_of_first : ℕ → List ℕ → List ℕ → List ℕ
+lines_of_first zero rows plan = []
+lines_of_first (suc n) rows plan = job_lines (get_or rows 0 0) (take 168 plan) ++ lines_of_first n (drop 4 rows) (drop 168 plan)
+
+-- the lines of all rows
+unfoldable pub rows_lines : List ℕ → List ℕ → List ℕ
+rows_lines rows plan = lines_of_first (row_count rows) rows plan
 
 -- the machine count, the result and the rows
 unfoldable pub plan_lines : ℕ → List ℕ → List ℕ → List ℕ
-plan_lines machines rows plan =
-    (number_line MachinesLine machines ++ (newline ∷ [])) ++ (ascii "result=plan\n" ++ rows_lines rows plan 0 (row_count rows))
-
--- the text of what the reader answered: more than 32 groups are a 3 after 1, before any row is looked at
-unfoldable pub reading_text : Reading → List ℕ
-reading_text r =
-    cond (eqb r.answer.number 0)
-    (cond (ltb 32 r.groups)
-    (refusal_text (first (count_fault r.machines) (refusal 3 0 0)))
-    (rows_text r.machines (take (4 * r.groups) r.rows)))
-    (refusal_text r.answer)
+plan_lines machines rows plan = ((number_line MachinesLine machines ++ (newline ∷ [])) ++ ascii "result=plan\n") ++ rows_lines rows plan

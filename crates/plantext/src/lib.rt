@@ -1,95 +1,104 @@
 // The printed text: from the bytes of a job file to the bytes that the program prints.
 #![tactic(auto)]
 
-ghost use Rattle.std.specs.Prelude.{◌≡◌, ◌+◌, ◌*◌, ◌≤◌, ◌<◌, length};
-ghost use Rattle.promise.specs.Answers.{refusal, first};
-ghost use Rattle.promise.specs.Rows.{row_count, count_fault};
-ghost use Rattle.promise.specs.PlanText.{rows_text, TextPromise};
-ghost use Rattle.writer.specs.Writing.{Writes};
-ghost use Rattle.plantext.specs.Rows.{row_lines, rows_lines, plan_lines, reading_text};
+ghost use Rattle.std.specs.Prelude.{◌≡◌, ◌++◌, ◌+◌, ◌*◌, ◌≤◌, ◌<◌, length, IfErr, OnOk, OnErr};
+ghost use Rattle.arrayvec.specs.ArrayVec.{array_vec_len};
+ghost use Rattle.promise.specs.Rows.{row_count};
+ghost use Rattle.promise.specs.Texts.{padded};
+ghost use Rattle.promise.specs.PlanText.{refusal_text, rows_text, plan_text, TextPromise};
+ghost use Rattle.promise.specs.Refusals.{numbered};
+ghost use Rattle.plantext.specs.Rows.{job_lines, rows_lines, plan_lines};
 
-use promise::{Answer, Reading, Text};
+use promise::{Refusal, Text};
+use writer::Page;
 
-// The two lines of row i: its number, and its part of the plan.
-fn write_row(out: &mut [u8], at: usize, rows: &[u32], plan: &[u16], i: usize) -> usize
-    requires { (i < 32) × (4 * i < length rows.now) × (168 * i + 168 ≤ length plan.now) × (at + length (row_lines rows.now plan.now i) ≤ length out.old) }
-    ensures { Writes (row_lines rows.now plan.now i) at out.old result out.new }
+// The two lines of a job: its number, and its machines in slots 1, 2, ..
+#[tactic(auto, unfolding(crate::specs::Rows::job_lines))]
+fn write_job(page: &mut Page, number: u32, machines: &[u16])
+    requires slots { length machines.now ≤ 168 }
+    requires fits { length page.old.items + length (job_lines number machines.now) ≤ 40960 }
+    ensures { page.new.items ≡ page.old.items ++ job_lines number machines.now }
 {
-    let named = writer::write_line(&mut *out, at, b"job=", rows[4 * i]);
-    let from = 168 * i;
-    writer::write_run(&mut *out, named, &plan[from..from + 168])
+    writer::write_line(page, b"job=", number);
+    writer::write_run(page, machines);
 }
 
-fn write_rows(out: &mut [u8], at: usize, rows: &[u32], plan: &[u16]) -> usize
-    requires { (row_count rows.now ≤ 32) × (168 * row_count rows.now ≤ length plan.now) × (at + length (rows_lines rows.now plan.now 0 (row_count rows.now)) ≤ length out.old) }
-    ensures { Writes (rows_lines rows.now plan.now 0 (row_count rows.now)) at out.old result out.new }
+// The lines of all rows, of which each has its part of the plan.
+#[tactic(auto, using(crate::proofs::Lines::rows_laws), unfolding(promise::specs::Rows::row_count))]
+fn write_rows(page: &mut Page, rows: &[u32], plan: &[u16])
+    requires parts { 168 * row_count rows.now ≤ length plan.now }
+    requires fits { length page.old.items + length (rows_lines rows.now plan.now) ≤ 40960 }
+    ensures { page.new.items ≡ page.old.items ++ rows_lines rows.now plan.now }
 {
-    let n = rows.len() / 4;
-    let mut end = at;
-    let mut i: usize = 0;
-    while i < n {
-        end = write_row(&mut *out, end, rows, plan, i);
-        i += 1;
+    for (row, machines) in rows.chunks_exact(4).zip(plan.chunks_exact(168)) {
+        write_job(page, row[0], machines);
     }
-    end
 }
 
-fn write_plan(out: &mut [u8], at: usize, machines: u32, rows: &[u32], plan: &[u16]) -> usize
-    requires { (row_count rows.now ≤ 32) × (168 * row_count rows.now ≤ length plan.now) × (at + length (plan_lines machines rows.now plan.now) ≤ length out.old) }
-    ensures { Writes (plan_lines machines rows.now plan.now) at out.old result out.new }
+#[tactic(auto, unfolding(crate::specs::Rows::plan_lines))]
+fn write_plan(page: &mut Page, machines: u32, rows: &[u32], plan: &[u16])
+    requires parts { 168 * row_count rows.now ≤ length plan.now }
+    requires fits { length page.old.items + length (plan_lines machines rows.now plan.now) ≤ 40960 }
+    ensures { page.new.items ≡ page.old.items ++ plan_lines machines rows.now plan.now }
 {
-    let counted = writer::write_line(&mut *out, at, b"machines=", machines);
-    let result = writer::write(&mut *out, counted, b"result=plan\n");
-    write_rows(&mut *out, result, rows, plan)
+    writer::write_line(page, b"machines=", machines);
+    writer::write(page, b"result=plan\n");
+    write_rows(page, rows, plan);
 }
 
 // The text of at most 32 rows: the plan is made in a buffer of its own.
-fn write_list(out: &mut [u8], machines: u32, rows: &[u32]) -> usize
-    requires { (row_count rows.now ≤ 32) × (length (rows_text machines rows.now) ≤ length out.old) }
-    ensures { Writes (rows_text machines rows.now) 0 out.old result out.new }
+#[tactic(auto, using(crate::proofs::Lines::list_laws))]
+fn write_list(page: &mut Page, machines: u32, rows: &[u32]) -> Result<(), Refusal>
+    requires few { row_count rows.now ≤ 32 }
+    requires fits { length page.old.items + length (rows_text machines rows.now) ≤ 40960 }
+    ensures ok { OnOk result (page.new.items ≡ page.old.items ++ rows_text machines rows.now) }
+    ensures err { OnErr result (page.new ≡ page.old) }
+    ensures refused { IfErr result (λ e. refusal_text (numbered e) ≡ rows_text machines rows.now) }
 {
-    let mut plan = [0u16; 5376];
-    let answer = planner::plan(machines, rows, &mut plan);
-    if answer.number != 0 {
-        return writer::write_refusal(&mut *out, 0, answer);
-    }
-    write_plan(&mut *out, 0, machines, rows, &plan)
+    let mut plan = [0; 5376];
+    planner::plan(machines, rows, &mut plan)?;
+    write_plan(page, machines, rows, &plan);
+    Ok(())
 }
 
-// More than 32 groups: 1, then 3.
-fn too_many(machines: u32) -> Answer
-    ensures { result ≡ first (count_fault machines) (refusal 3 0 0) }
+// What a file says, planned and printed: more than 32 groups are a 3, after 1.
+#[tactic(auto, using(crate::proofs::Files::file_laws))]
+fn write_file(page: &mut Page, bytes: &[u8]) -> Result<(), Refusal>
+    requires { length page.old.items + length (plan_text bytes.now) ≤ 40960 }
+    ensures ok { OnOk result (page.new.items ≡ page.old.items ++ plan_text bytes.now) }
+    ensures err { OnErr result (page.new ≡ page.old) }
+    ensures refused { IfErr result (λ e. refusal_text (numbered e) ≡ plan_text bytes.now) }
 {
-    let count = rows::count_fault(machines);
-    if count.number != 0 {
-        return count;
+    let file = jobfile::read(bytes)?;
+    if 32 < file.groups {
+        rows::count_fault(file.machines)?;
+        return Err(Refusal::ManyRows);
     }
-    rows::refuse(3, 0, 0)
+    let n = 4 * file.groups as usize;
+    write_list(page, file.machines, &file.rows[..n])
 }
 
-#[tactic(auto, using(crate::proofs::Laws::reading_laws))]
-fn write_reading(out: &mut [u8], reading: Reading) -> usize
-    requires { length (reading_text reading) ≤ length out.old }
-    ensures { Writes (reading_text reading) 0 out.old result out.new }
+// A page as a text: zeros come after what is printed.
+fn text_of(page: &Page) -> Text
+    ensures printed { result.bytes ≡ padded 40960 page.now.items }
+    ensures counted { result.len ≡ array_vec_len page.now }
 {
-    let answer = reading.answer;
-    if answer.number != 0 {
-        return writer::write_refusal(&mut *out, 0, answer);
+    let mut bytes = [0; 40960];
+    bytes[..page.len()].copy_from_slice(page.as_slice());
+    Text {
+        bytes,
+        len: page.len(),
     }
-    if 32 < reading.groups {
-        return writer::write_refusal(&mut *out, 0, too_many(reading.machines));
-    }
-    let rows = reading.rows;
-    let n = 4 * reading.groups as usize;
-    write_list(&mut *out, reading.machines, &rows[..n])
 }
 
 // The whole program but for reading and writing: what is printed for any bytes.
+#[tactic(auto, using(promise::proofs::TextSize::text_fits))]
 pub fn plan_text(bytes: &[u8]) -> Text
     ensures { TextPromise bytes.now result }
 {
-    let reading = jobfile::read(bytes);
-    let mut text = [0u8; 40960];
-    let len = write_reading(&mut text, reading);
-    Text { bytes: text, len }
+    let mut page = Page::new();
+    if let Err(refusal) = write_file(&mut page, bytes) {
+        writer::write_refusal(&mut page, refusal);
+    }
+    text_of(&page)
 }

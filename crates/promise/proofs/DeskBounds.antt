@@ -44,7 +44,7 @@ to_plan_length machines clock hs = length-map (map (as_planned clock) hs) _ ∙ 
 
 -- and so is the new job, once its fields are in range
 module _ (desk : Desk) (s : Sound desk) (j : Job) (f : (g : Field) → ¬ DeskHolds desk j (asked g)) where
-  asked_in_range : All InRange (jobs_with desk j)
+  pub asked_in_range : All InRange (jobs_with desk j)
   unfolding with_new new_held admit_dues
   asked_in_range =
       let w = admit_dues desk.clock in

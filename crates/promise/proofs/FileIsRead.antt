@@ -8,7 +8,7 @@ use mathlib.Core.List.{List, ◌∷◌}
 use lib.ListN.{length, replicate}
 use borrow.Author.Tests.{lt-ltb, le-ltb}
 use Rattle.promise.specs.declared.Answer.{Answer}
-use Rattle.promise.specs.declared.Reading.{Reading}
+use Rattle.promise.specs.Records.{Reading}
 use Rattle.promise.specs.Answers.{refusal}
 use Rattle.promise.specs.Answers as answers
 use Rattle.promise.specs.Texts.{padded}

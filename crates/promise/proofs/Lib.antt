@@ -48,3 +48,5 @@ pub mod TextSize
 pub mod Starred
 pub mod Requested
 pub mod Theorems
+pub mod Refusals
+pub mod Exits

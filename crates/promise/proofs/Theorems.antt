@@ -1,11 +1,12 @@
 -- The headline statements of specs/Claims.antt, DeskClaims.antt, DeskWindowClaims.antt, TextClaims.antt,
 -- Starred.antt and Requested.antt, one theorem each.
-use Rattle.promise.specs.Claims.{WindowReadsTheNumbers, WindowReadsLowestFirst, WindowTakesSixteenARow, WindowCountsBytes, WindowCountsMachinesFirst, YesWritesThePlan, RefusalWritesNothing, PlanAnswersByTheTable, RoomAnswersByTheTable, PlanSevenIsTrue, RoomFigureIsTheRoom, RowOrderPlaysNoPart, PlanPromiseLeavesOne, RoomPromiseLeavesOne, AnswersPack, PackingIsOneToOne, RoomIsReadBack, WindowWritesThePlan, WindowPromisesLeaveOne, WrittenPlanTakesTheLeast}
+use Rattle.promise.specs.Claims.{RefusalsAreNumbered, RefusalsAreToldApart, OutcomesLeaveOne, WindowReadsTheNumbers, WindowReadsLowestFirst, WindowTakesSixteenARow, WindowCountsBytes, WindowCountsMachinesFirst, YesWritesThePlan, RefusalWritesNothing, PlanAnswersByTheTable, RoomAnswersByTheTable, PlanSevenIsTrue, RoomFigureIsTheRoom, RowOrderPlaysNoPart, PlanPromiseLeavesOne, RoomPromiseLeavesOne, AnswersPack, PackingIsOneToOne, RoomIsReadBack, WindowWritesThePlan, WindowPromisesLeaveOne, WrittenPlanTakesTheLeast}
 use Rattle.promise.specs.DeskClaims.{SoundIsTested, DeskAnswersByTheTable, SoundnessIsKept, RefusalHandsTheDeskBack, AdmitSevenIsTrue, RunGivesOutThePlan, DeskCallsLeaveOne, OpenAnswersByTheTable, SeatsAreToldAndKept, DemandThree}
 use Rattle.promise.specs.DeskWindowClaims.{RecordsAreReadBack, RecordsAreLaidOut, RecordsAreWrittenBack, DeskWindowAnswersByTheTable, DeskWindowRefusalLeavesTheBytes, DeskWindowHandsTheDeskOn, HistoryGoesThroughTheWindow, DeskWindowTellsInPlace, DeskWindowPacks, DeskWindowPromisesLeaveOne}
 use Rattle.promise.specs.TextClaims.{NumbersAreReadBack, NumbersArePrintedBack, FileIsRead, FilesHaveTheirOwnText, TextIsPrinted, FilesAreNoTwoNorSix, PrintedNumbersAreWhole, PairsAreTheSlotsInUse, LabelsPlayNoPart, FileOrderPlaysNoPart, TextFits, TextPromisesLeaveOne}
 use Rattle.promise.specs.Starred.{StarredCasesComeOut}
 use Rattle.promise.specs.Requested.{RequestedCasesComeOut}
+use Rattle.promise.proofs.Refusals
 use Rattle.promise.proofs.Buffer
 use Rattle.promise.proofs.Monday
 use Rattle.promise.proofs.Table
@@ -38,6 +39,16 @@ use Rattle.promise.proofs.FileOrder
 use Rattle.promise.proofs.TextSize
 use Rattle.promise.proofs.Starred
 use Rattle.promise.proofs.Requested
+
+-- refusals and outcomes of the code
+pub refusals_are_numbered : RefusalsAreNumbered
+refusals_are_numbered = Refusals.are_numbered
+
+pub refusals_are_told_apart : RefusalsAreToldApart
+refusals_are_told_apart = Refusals.told_apart
+
+pub outcomes_leave_one : OutcomesLeaveOne
+outcomes_leave_one = Refusals.outcomes_leave_one
 
 -- L1
 pub yes_writes_the_plan : YesWritesThePlan

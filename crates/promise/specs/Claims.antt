@@ -1,5 +1,5 @@
 -- The headline statements about the promises, each a proposition with a name. proofs/Theorems.antt has one theorem for each.
-use Rattle.std.specs.Prelude.{ℕ, ◌+◌, ◌*◌, ◌-◌, ◌/◌, ◌%◌, ◌≤◌, ◌<◌, ◌≡◌, ◌≢◌, ◌↔◌, List, [], ◌∷◌, ◌++◌, cond, ltb, pos, neg_ℤ, ◌-ℤ◌, length, get_or}
+use Rattle.std.specs.Prelude.{ℕ, ℤ, ◌+◌, ◌*◌, ◌-◌, ◌/◌, ◌%◌, ◌≤◌, ◌<◌, ◌≡◌, ◌≢◌, ◌↔◌, List, [], ◌∷◌, ◌++◌, cond, ltb, pos, neg_ℤ, ◌-ℤ◌, length, get_or}
 use Rattle.model.specs.Lists.{All, Perm}
 use Rattle.model.specs.Jobs.{forced}
 use Rattle.model.specs.Boundaries.{LeastShort}
@@ -7,13 +7,37 @@ use Rattle.model.specs.Schedules.{Valid, Possible}
 use Rattle.model.specs.Rule.{plan}
 use Rattle.model.specs.Monday.{work_by, figure}
 use Rattle.promise.specs.declared.Answer.{Answer}
-use Rattle.promise.specs.declared.RoomAnswer.{RoomAnswer}
+use Rattle.promise.specs.Records.{RoomAnswer}
+use Rattle.std.specs.declared.result.Result.{Result}
+use Rattle.promise.specs.declared.Refusal.{Refusal}
+use Rattle.promise.specs.declared.Outcome.{Outcome}
+use Rattle.promise.specs.declared.Figures.{Figures}
+use Rattle.promise.specs.declared.Given.{Given}
+use Rattle.promise.specs.declared.JobFile.{JobFile}
+use Rattle.promise.specs.Refusals.{numbered, as_answer, as_room_answer, as_desked, as_withdrawn, as_looked, as_ran, as_reading}
 use Rattle.promise.specs.Answers.{yes, refusal}
 use Rattle.promise.specs.Order.{GivenBy}
 use Rattle.promise.specs.Rows.{row_at, row_count, jobs_of, machine_count, plan_buffer_test, list_fault, list_order}
 use Rattle.promise.specs.Window.{words_of, sent, window_answer, window_buffer, pack, Packs, room_window_answer, room_packed, PlanBytesPromise, PlanNumbersPromise, RoomBytesPromise}
 use Rattle.promise.specs.Monday.{rows_by}
 use Rattle.promise.specs.Lists.{planned, Holds, answer_of, plan_order, plan_answer, plan_buffer, PlanPromise, room_order, room_answer, room_figure, RoomPromise}
+
+-- each refusal of the code has a number of 01's table, and no two have the same number, place and amount
+abbrev pub RefusalsAreNumbered : Type 0
+RefusalsAreNumbered = (e : Refusal) → (1 ≤ (numbered e).number) × ((numbered e).number ≤ 14)
+
+abbrev pub RefusalsAreToldApart : Type 0
+RefusalsAreToldApart = (e f : Refusal) → numbered e ≡ numbered f → e ≡ f
+
+-- what a call comes to is told by its record, so that a promise about the record leaves one of them
+pub record OutcomesLeaveOne : Type 0 where
+  pub plan : (r s : Result Unit Refusal) → as_answer r ≡ as_answer s → r ≡ s
+  pub room : (r s : Result ℤ Refusal) → as_room_answer r ≡ as_room_answer s → r ≡ s
+  pub desked : (r s : Outcome Unit) → as_desked r ≡ as_desked s → r ≡ s
+  pub withdrawn : (r s : Outcome ℕ) → as_withdrawn r ≡ as_withdrawn s → r ≡ s
+  pub looked : (r s : Outcome Figures) → as_looked r ≡ as_looked s → r ≡ s
+  pub ran : (r s : Outcome (List Given)) → as_ran r ≡ as_ran s → r ≡ s
+  pub reading : (r s : Result JobFile Refusal) → as_reading r ≡ as_reading s → r ≡ s
 
 -- L1: on a yes the buffer holds the plan by job number, row by row and slot by slot, and what was lent beyond
 pub record Planned (machines : ℕ) (rows lent : List ℕ) : Type 0 where

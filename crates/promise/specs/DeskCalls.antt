@@ -7,11 +7,11 @@ use Rattle.model.specs.Boundaries.{RoomEverywhere, Short, least_short}
 use Rattle.promise.specs.declared.Answer.{Answer}
 use Rattle.promise.specs.declared.Held.{Held}
 use Rattle.promise.specs.declared.Desk.{Desk}
-use Rattle.promise.specs.declared.Desked.{Desked}
-use Rattle.promise.specs.declared.Withdrawn.{Withdrawn}
-use Rattle.promise.specs.declared.Looked.{Looked}
+use Rattle.promise.specs.Records.{Desked}
+use Rattle.promise.specs.Records.{Withdrawn}
+use Rattle.promise.specs.Records.{Looked}
 use Rattle.promise.specs.declared.Given.{Given}
-use Rattle.promise.specs.declared.Ran.{Ran}
+use Rattle.promise.specs.Records.{Ran}
 use Rattle.promise.specs.Answers.{yes, refusal, fault, first}
 use Rattle.promise.specs.Rows.{Field, the_number, the_work, the_deadline, the_bound, field_number, DueRange, OutOfRange, fields_fault, count_fault}
 use Rattle.promise.specs.Desk.{unused, held_of, desk_of, to_plan, jobs_for, Sound, column, leeway}

@@ -8,10 +8,10 @@ use Rattle.model.specs.Schedules.{Possible}
 use Rattle.model.specs.Rule.{plan}
 use Rattle.promise.specs.declared.Held.{Held}
 use Rattle.promise.specs.declared.Desk.{Desk}
-use Rattle.promise.specs.declared.Desked.{Desked}
-use Rattle.promise.specs.declared.Withdrawn.{Withdrawn}
-use Rattle.promise.specs.declared.Looked.{Looked}
-use Rattle.promise.specs.declared.Ran.{Ran}
+use Rattle.promise.specs.Records.{Desked}
+use Rattle.promise.specs.Records.{Withdrawn}
+use Rattle.promise.specs.Records.{Looked}
+use Rattle.promise.specs.Records.{Ran}
 use Rattle.promise.specs.Answers.{yes, refusal}
 use Rattle.promise.specs.Order.{GivenBy}
 use Rattle.promise.specs.Rows.{Field}

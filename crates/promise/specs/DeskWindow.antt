@@ -6,7 +6,7 @@ use Rattle.model.specs.Jobs.{Job}
 use Rattle.promise.specs.declared.Answer.{Answer}
 use Rattle.promise.specs.declared.Held.{Held}
 use Rattle.promise.specs.declared.Desk.{Desk}
-use Rattle.promise.specs.declared.Looked.{Looked}
+use Rattle.promise.specs.Records.{Looked}
 use Rattle.promise.specs.declared.Given.{Given}
 use Rattle.promise.specs.Answers.{refusal, fault, first}
 use Rattle.promise.specs.DeskCalls.{sound_fault, open_of, admit_of, withdraw_of, look_of, run_of}

@@ -17,3 +17,5 @@ pub mod DeskClaims
 pub mod Claims
 pub mod DeskWindow
 pub mod DeskWindowClaims
+pub mod Records
+pub mod Refusals

@@ -5,7 +5,7 @@ use Rattle.model.specs.Jobs.{Job, room, counted}
 use Rattle.model.specs.Boundaries.{RoomEverywhere, least_short}
 use Rattle.model.specs.Rule.{plan_rows}
 use Rattle.promise.specs.declared.Answer.{Answer}
-use Rattle.promise.specs.declared.RoomAnswer.{RoomAnswer}
+use Rattle.promise.specs.Records.{RoomAnswer}
 use Rattle.promise.specs.Answers.{refusal, fault, first, fit_answer}
 use Rattle.promise.specs.Rows.{row_at, row_count, jobs_of, field_number, list_dues, OutOfRange, Test, machine_count, list_length, row_count_test, field, seen, plan_buffer_test, fit, boundary, list_fault, list_order}
 

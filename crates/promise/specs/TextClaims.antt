@@ -7,7 +7,7 @@ use Rattle.model.specs.Lists.{All, Perm, Rising, span}
 use Rattle.model.specs.Jobs.{Job, counted}
 use Rattle.model.specs.Rule.{plan}
 use Rattle.promise.specs.declared.Answer.{Answer}
-use Rattle.promise.specs.declared.Reading.{Reading}
+use Rattle.promise.specs.Records.{Reading}
 use Rattle.promise.specs.declared.Text.{Text}
 use Rattle.promise.specs.declared.LineKind.TheVariants.{MachinesLine}
 use Rattle.promise.specs.Answers.{refusal}

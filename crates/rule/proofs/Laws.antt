@@ -1,240 +1,183 @@
--- What each step of the code does to the shares, against the model's rule.
-use Prim.Native.Nat.{ℕ, zero, suc, ◌+◌, ◌-◌, ◌≤◌, ◌<◌}
-use native.Mathlib.Nat.{sub-zero}
-use native.Mathlib.Omega.{arith}
-use mathlib.Core.Path.{◌≡◌, refl, sym, ◌∙◌, ap, ap₂}
-use mathlib.Core.Logic.{◌≢◌}
-use mathlib.Core.Bool.{Bool, true, false, cond}
-use mathlib.Core.List.{List, [], ◌∷◌, map}
-use mathlib.Core.Option.{Option, some, none}
-use lib.Dec.{ltb}
-use lib.ListN.{length, get_or, take, drop, set, length-map, length-set}
-use lib.Seq.{drop-cons, length-take-le, get_or-take, take-set-lt}
-use borrow.Author.Tests.{lt-ltb, le-ltb, le-leb, lt-leb, eq-eqb, ne_eqb}
-use Rattle.model.specs.Lists.{All, Distinct}
+-- The choice among shares and a machine for the chosen one, against the model's rule.
+use Rattle.std.proofs.Common.{◌≡◌, ◌≢◌, ◌+◌, ◌-◌, ◌<◌, ◌&&◌, ◌||◌, ℕ, zero, suc, Bool, true, false, cond, List, [], ◌∷◌, ◌++◌, map, length, get_or, take, drop, set, refl, sym, ap, ◌∙◌, ltb, eqb, eq-eqb, arith}
+use Rattle.std.specs.declared.option.Option.{Option}
+use Rattle.std.specs.declared.option.Option.TheVariants.{None, Some}
+use Rattle.std.specs.List.{HoldsAt}
+use Rattle.std.proofs.Math.Option.{some, none}
+use Rattle.std.proofs.Math.Option as Math
+use Rattle.std.proofs.lemmas.Bool.Decides.{nat_tests}
+use Rattle.std.proofs.lemmas.List.Edits.{map_over_more}
+use borrow.Author.Tests.{ne_eqb}
+use Rattle.std.proofs.lemmas.List.{map_more, get_or_default, length-take-le, get_or-take}
+use Rattle.model.specs.Lists.{All}
 use Rattle.model.specs.Rule as Model
-use Rattle.model.specs.Rule.{run_left, qualifies, before, choose, next, bump, give, give_to, hand_out, clear}
-use Rattle.model.specs.Jobs.{run_length}
-use Rattle.model.proofs.Choice.{is_open}
-use Rattle.model.proofs.Shares.{numbers_of, numbers_give}
-use Rattle.figures.proofs.Tables.{swept, sweep_here, sweep_step}
+use Rattle.model.specs.Rule.{run_left, qualifies, before, choose, next, bump, give, give_to, hand_out, clear, fill}
+use Rattle.model.proofs.Choice.{choice}
+use Rattle.model.proofs.Shares.{numbers_of, numbers_give, numbers_clear}
 use Rattle.rule.specs.declared.Share.{Share}
-use Rattle.rule.specs.declared.Table.{Table}
-use Rattle.rule.specs.declared.Chosen.{Chosen}
-use Rattle.rule.specs.declared.Chosen.TheVariants.{Nothing, At}
-use Rattle.rule.specs.Shares.{as_share, shares_of, bumped, cleared, Ready, choose_of, pick_from}
+use Rattle.rule.specs.Shares.{as_share, as_shares, Apart, bumped, cleared, Ready, IsNext, Picked}
 
--- a share that qualifies, test by test
-module _ (t : ℕ) (p : Model.Share) where
-  pub past_due : p.job.deadline < t → false ≡ qualifies t p
-  unfolding qualifies
-  past_due l = rw (lt-leb t p.job.deadline l)
+-- "goes before" on run lengths and numbers
+abbrev first : ℕ → ℕ → ℕ → ℕ → Bool
+first a m b n = ltb b a || (eqb b a && ltb m n)
 
-  pub none_left : t ≤ p.job.deadline → p.left ≡ 0 → false ≡ qualifies t p
-  unfolding qualifies
-  none_left l e = rw (le-leb t p.job.deadline l, le-ltb 0 p.left (omega arith))
+first_trans : (a m b n c o : ℕ) → first a m b n ≡ true → first b n c o ≡ true → first a m c o ≡ true
+first_trans a m b n c o e f = grind (arith, nat_tests)
 
-  pub below_bound : t ≤ p.job.deadline → 0 < p.left → ltb p.given p.job.bound ≡ qualifies t p
-  unfolding qualifies
-  below_bound l e = rw (le-leb t p.job.deadline l, lt-ltb 0 p.left e)
+first_none : (a m b n c o : ℕ) → first a m b n ≡ false → first b n c o ≡ false → first a m c o ≡ false
+first_none a m b n c o e f = grind (arith, nat_tests)
 
--- which of two goes before the other, test by test; a and b are their run lengths
-module _ (p q : Model.Share) (a b : ℕ) (ea : a ≡ run_length p.left p.job.bound) (eb : b ≡ run_length q.left q.job.bound) where
-  pub longer_first : b < a → true ≡ before p q
-  unfolding before run_left
-  longer_first l = rw (← ea, ← eb, lt-ltb b a l)
+first_back : (a m b n : ℕ) → first a m b n ≡ true → first b n a m ≡ false
+first_back a m b n e = grind (arith, nat_tests)
 
-  pub shorter_last : a < b → false ≡ before p q
-  unfolding before run_left
-  shorter_last l = rw (← ea, ← eb, le-ltb b a (omega arith), ne_eqb b a (λ e. omega arith))
+first_other : (a m b n : ℕ) → m ≢ n → first a m b n ≡ false → first b n a m ≡ true
+first_other a m b n h e = grind (arith, nat_tests)
 
-  pub tie_by_number : a ≡ b → ltb p.job.number q.job.number ≡ before p q
-  unfolding before run_left
-  tie_by_number e = rw (← ea, ← eb, le-ltb b a (omega arith), eq-eqb b a (sym e))
+before_back : (p q : Model.Share) → before p q ≡ true → before q p ≡ false
+unfolding before run_left
+before_back p q e = first_back (run_left p) p.job.number (run_left q) q.job.number e
 
--- the choice so far
-module _ (i : ℕ) (p : Share) (best : Chosen) where
-  pub choose_first : best ≡ Nothing → At i p ≡ choose_of i p best
-  unfolding choose_of
-  choose_first e = rw e
+before_other : (p q : Model.Share) → p.job.number ≢ q.job.number → before p q ≡ false → before q p ≡ true
+unfolding before run_left
+before_other p q h e = first_other (run_left p) p.job.number (run_left q) q.job.number h e
 
-  module _ (k : ℕ) (q : Share) (e : best ≡ At k q) (b : Bool) (h : b ≡ before (as_share p) (as_share q)) where
-    pub choose_new : b ≡ true → At i p ≡ choose_of i p best
-    unfolding choose_of
-    choose_new t = rw (e, ← h, t)
+-- the model adds a share at the front of those it has chosen from, the code at their end: the one at the end, or the choice so far if that goes before it
+abbrev later : Model.Share → Math.Option Model.Share → Model.Share
+later q none = q
+later q (some b) = cond (before b q) b q
 
-    pub choose_old : b ≡ false → At k q ≡ choose_of i p best
-    unfolding choose_of
-    choose_old t = rw (e, ← h, t)
-
--- one turn of the search, downwards
-module _ (t n i : ℕ) (l : List Share) (d : Share) (hi : i < n) (hn : n ≤ length l) (b : Bool) (eb : b ≡ qualifies t (as_share (get_or l i d))) where
-  turn : pick_from t i (drop i (take n l))
-      ≡ cond b (choose_of i (get_or l i d) (pick_from t (suc i) (drop (suc i) (take n l)))) (pick_from t (suc i) (drop (suc i) (take n l)))
-  turn =
-      ap (pick_from t i) (drop-cons (take n l) i d (omega (arith, length-take-le n l hn)) ∙ ap (λ (p : Share). p ∷ drop (suc i) (take n l)) (get_or-take n l i d hi))
-      ∙ rw (← eb) refl
-
-  pub turn_yes : (best best' : Chosen) → best ≡ pick_from t (suc i) (drop (suc i) (take n l)) → b ≡ true → best' ≡ choose_of i (get_or l i d) best
-      → best' ≡ pick_from t i (drop i (take n l))
-  turn_yes best best' e h f = f ∙ ap (choose_of i (get_or l i d)) e ∙ sym (turn ∙ rw h refl)
-
-  pub turn_no : (best : Chosen) → best ≡ pick_from t (suc i) (drop (suc i) (take n l)) → b ≡ false → best ≡ pick_from t i (drop i (take n l))
-  turn_no best e h = e ∙ sym (turn ∙ rw h refl)
-
--- the choice, as the model makes it
-abbrev as_option : Chosen → Option Model.Share
-as_option Nothing = none
-as_option (At i p) = some (as_share p)
-
-choose_same : (i : ℕ) (p : Share) (c : Chosen) → as_option (choose_of i p c) ≡ choose (as_share p) (as_option c)
-unfolding choose_of
-choose_same i p Nothing = refl
-choose_same i p (At k q) = go (before (as_share p) (as_share q))
+choose_later : (p q b : Model.Share) → choose p (some (later q (some b))) ≡ some (later q (choose p (some b)))
+unfolding before run_left
+choose_later p q b = go (before p b) refl (before b q) refl
   where
-    go : (b : Bool) → as_option (cond b (At i p) (At k q)) ≡ some (cond b (as_share p) (as_share q))
-    go true = refl
-    go false = refl
+    go : (x : Bool) → before p b ≡ x → (y : Bool) → before b q ≡ y
+        → some (cond (before p (cond y b q)) p (cond y b q)) ≡ some (cond (before (cond x p b) q) (cond x p b) q)
+    go true e true f = rw (e, first_trans (run_left p) p.job.number (run_left b) b.job.number (run_left q) q.job.number e f)
+    go true e false f = refl
+    go false e true f = rw (e, f)
+    go false e false f = rw (f, first_none (run_left p) p.job.number (run_left b) b.job.number (run_left q) q.job.number e f)
 
-pick_same : (t i : ℕ) (ps : List Share) → as_option (pick_from t i ps) ≡ next t (map as_share ps)
-pick_same t i [] = refl
-pick_same t i (p ∷ ps) = go (qualifies t (as_share p)) (pick_same t (suc i) ps)
+next_end : (t : ℕ) (ps : List Model.Share) (q : Model.Share) → next t (ps ++ (q ∷ [])) ≡ cond (qualifies t q) (some (later q (next t ps))) (next t ps)
+next_end t [] q = refl
+next_end t (p ∷ ps) q = rw (next_end t ps q) (go (qualifies t p) (qualifies t q) (next t ps))
   where
-    go : (b : Bool) → as_option (pick_from t (suc i) ps) ≡ next t (map as_share ps)
-        → as_option (cond b (choose_of i p (pick_from t (suc i) ps)) (pick_from t (suc i) ps)) ≡ cond b (choose (as_share p) (next t (map as_share ps))) (next t (map as_share ps))
-    go true e = choose_same i p (pick_from t (suc i) ps) ∙ ap (choose (as_share p)) e
-    go false e = e
+    go : (x y : Bool) (o : Math.Option Model.Share)
+        → cond x (choose p (cond y (some (later q o)) o)) (cond y (some (later q o)) o) ≡ cond y (some (later q (cond x (choose p o) o))) (cond x (choose p o) o)
+    go false y o = refl
+    go true false o = refl
+    go true true none = refl
+    go true true (some b) = choose_later p q b
 
--- what is chosen stands at its index, and qualifies
-record Stands (t i : ℕ) (ps : List Share) (k : ℕ) (q : Share) : Type 0 where
-  from : i ≤ k
-  to : k < i + length ps
-  there : (d : Share) → get_or ps (k - i) d ≡ q
-  open' : qualifies t (as_share q) ≡ true
+-- shares that stand at different places are of jobs with different numbers
+unlike : (n : ℕ) (ps : List Share) (i : ℕ) (d : Share) → All (λ m. n ≢ m) (numbers_of (as_shares ps)) → i < length ps → n ≢ (get_or ps i d).job.number
+unlike n [] i d h l = absurd (omega arith)
+unlike n (p ∷ ps) zero d h l = h.0
+unlike n (p ∷ ps) (suc i) d h l = unlike n ps i d h.1 (omega arith)
 
-abbrev Standing : ℕ → ℕ → List Share → Chosen → Type 0
-Standing t i ps Nothing = Unit
-Standing t i ps (At k q) = Stands t i ps k q
+apart : (ps : List Share) (k i : ℕ) (d : Share) → Apart ps → k < i → i < length ps → (get_or ps k d).job.number ≢ (get_or ps i d).job.number
+apart [] k i d h l m = absurd (omega arith)
+apart (p ∷ ps) k zero d h l m = absurd (omega arith)
+apart (p ∷ ps) zero (suc i) d h l m = unlike p.job.number ps i d h.0 (omega arith)
+apart (p ∷ ps) (suc k) (suc i) d h l m = apart ps k i d h.1 (omega arith) (omega arith)
 
-stands_later : (t i : ℕ) (p : Share) (ps : List Share) (c : Chosen) → Standing t (suc i) ps c → Standing t i (p ∷ ps) c
-stands_later t i p ps Nothing s = tt
-stands_later t i p ps (At k q) s = record {
-  from = omega arith;
-  to = omega arith;
-  there = λ d. let e : k - i ≡ suc (k - suc i) = omega (arith, s.from) in rw e (s.there d);
-  open' = s.open';
-}
+-- the choice among the first i shares, and among one more: share i does not qualify, or it is the first that does, or it goes before the choice so far, or it does not
+module _ (t : ℕ) (shares : List Share) (i : ℕ) (d : Share) (h : i < length shares) where
+  grown : next t (as_shares (take (i + 1) shares))
+      ≡ cond (qualifies t (as_share (get_or shares i d))) (some (later (as_share (get_or shares i d)) (next t (as_shares (take i shares))))) (next t (as_shares (take i shares)))
+  grown = ap (next t) (map_more as_share shares i d h) ∙ next_end t (as_shares (take i shares)) (as_share (get_or shares i d))
 
-stands_pick : (t i : ℕ) (ps : List Share) → Standing t i ps (pick_from t i ps)
-unfolding choose_of
-stands_pick t i [] = tt
-stands_pick t i (p ∷ ps) = go (qualifies t (as_share p)) refl (pick_from t (suc i) ps) (stands_pick t (suc i) ps)
-  where
-    here : qualifies t (as_share p) ≡ true → Stands t i (p ∷ ps) i p
-    here e = record { from = omega arith; to = omega arith; there = λ d. let z : i - i ≡ 0 = omega arith in rw z; open' = e }
+  short : length (take i shares) ≡ i
+  short = length-take-le i shares (omega arith)
 
-    two : qualifies t (as_share p) ≡ true → (k : ℕ) (q : Share) → Stands t (suc i) ps k q → (b : Bool) → Standing t i (p ∷ ps) (cond b (At i p) (At k q))
-    two e k q s true = here e
-    two e k q s false = stands_later t i p ps (At k q) s
+  long : length (take (i + 1) shares) ≡ i + 1
+  long = length-take-le (i + 1) shares (omega arith)
 
-    go : (b : Bool) → qualifies t (as_share p) ≡ b → (c : Chosen) → Standing t (suc i) ps c → Standing t i (p ∷ ps) (cond b (choose_of i p c) c)
-    go true e Nothing s = here e
-    go true e (At k q) s = two e k q s (before (as_share p) (as_share q))
-    go false e c s = stands_later t i p ps c s
+  pub picked_still : false ≡ qualifies t (as_share (get_or shares i d)) → (best : Option ℕ) → Picked t (take i shares) best → Picked t (take (i + 1) shares) best
+  picked_still e None p = grown ∙ rw (← e) p
+  picked_still e (Some k) p =
+      let l : k < i = omega (arith, short, p.within) in record {
+        within = omega (arith, long);
+        chosen = λ c. grown ∙ rw (← e) (rw (get_or-take (i + 1) shares k c (omega arith), ← get_or-take i shares k c l) (p.chosen c));
+      }
 
--- a machine by index is a machine by number, for distinct numbers
-absent : (n : ℕ) (ps : List Model.Share) → All (λ m. n ≢ m) (numbers_of ps) → give n ps ≡ ps
-absent n [] h = refl
-absent n (p ∷ ps) h = rw (ne_eqb p.job.number n (λ e. h.0 (sym e))) (ap (λ (qs : List Model.Share). p ∷ qs) (absent n ps h.1))
+  module _ (e : true ≡ qualifies t (as_share (get_or shares i d))) where
+    here : HoldsAt (λ p. as_share p ≡ as_share (get_or shares i d)) (take (i + 1) shares) i
+    here c = rw (get_or-take (i + 1) shares i c (omega arith)) (ap as_share (get_or_default shares i c d h))
 
-give_at : (ps : List Model.Share) (k : ℕ) (q : Model.Share) → Distinct (numbers_of ps) → k < length ps → ((d : Model.Share) → get_or ps k d ≡ q)
-    → give q.job.number ps ≡ set ps k (bump q)
-give_at [] k q d l h = absurd (omega arith)
-give_at (p ∷ ps) zero q d l h =
-    let e = ap (λ (r : Model.Share). r.job.number) (h p) in
-    rw (eq-eqb p.job.number q.job.number e)
-    (ap₂ ◌∷◌ (ap bump (h p)) (absent q.job.number ps (rw e at d.0)))
-give_at (p ∷ ps) (suc k) q d l h =
-    rw (ne_eqb p.job.number q.job.number (other ps k d.0 (omega arith) h))
-    (ap (λ (qs : List Model.Share). p ∷ qs) (give_at ps k q d.1 (omega arith) h))
-  where
-    other : (rs : List Model.Share) (j : ℕ) → All (λ m. p.job.number ≢ m) (numbers_of rs) → j < length rs → ((e : Model.Share) → get_or rs j e ≡ q) → p.job.number ≢ q.job.number
-    other [] j a b f = absurd (omega arith)
-    other (r ∷ rs) zero a b f = λ e. a.0 (e ∙ sym (ap (λ (s : Model.Share). s.job.number) (f r)))
-    other (r ∷ rs) (suc j) a b f = other rs j a.1 (omega arith) f
+    pub picked_first : Picked t (take i shares) None → IsNext t (take (i + 1) shares) i
+    picked_first p = record { within = omega (arith, long); chosen = λ c. grown ∙ rw (← e, p, here c) refl }
 
-map_set : {A B : Type 0} (f : A → B) (l : List A) (i : ℕ) (a : A) → map f (set l i a) ≡ set (map f l) i (f a)
-map_set f [] i a = refl
-map_set f (x ∷ l) zero a = refl
-map_set f (x ∷ l) (suc i) a = ap (λ (m : List _). f x ∷ m) (map_set f l i a)
+    module _ (k : ℕ) (p : IsNext t (take i shares) k) (c : Share) where
+      two : next t (as_shares (take (i + 1) shares)) ≡ some (later (as_share (get_or shares i d)) (some (as_share (get_or shares k c))))
+      two = grown ∙ rw (← e, p.chosen c, get_or-take i shares k c (omega (arith, short, p.within))) refl
 
--- what the search found
-module _ (t n : ℕ) (now : Table) (hn : n ≤ length now.shares) where
-  pub found_none : pick_from t 0 (take n now.shares) ≡ Nothing → (c : ℕ) → hand_out c t (shares_of n now) ≡ shares_of n now
-  unfolding shares_of
-  found_none e c = go c
-    where
-      nobody : next t (map as_share (take n now.shares)) ≡ none
-      nobody = sym (pick_same t 0 (take n now.shares)) ∙ ap as_option e
+      pub picked_new : true ≡ before (as_share (get_or shares i d)) (as_share (get_or shares k c)) → IsNext t (take (i + 1) shares) i
+      picked_new b = record { within = omega (arith, long); chosen = λ f. two ∙ rw (before_back _ _ (sym b), here f) refl }
 
-      go : (c : ℕ) → hand_out c t (map as_share (take n now.shares)) ≡ map as_share (take n now.shares)
-      go zero = refl
-      go (suc c) = rw nobody (go c)
+      pub picked_old : Apart shares → false ≡ before (as_share (get_or shares i d)) (as_share (get_or shares k c)) → IsNext t (take (i + 1) shares) k
+      picked_old a b =
+          let l : k < i = omega (arith, short, p.within) in
+          let m : k < length shares = omega arith in
+          record {
+            within = omega (arith, long);
+            chosen = λ f.
+                two
+                ∙ rw (before_other (as_share (get_or shares i d)) (as_share (get_or shares k c)) (λ n. apart shares k i d a l h (ap (λ (q : Share). q.job.number) (get_or_default shares k d c m) ∙ sym n)) (sym b))
+                (ap (λ (q : Share). some (as_share q)) (get_or_default shares k c f m ∙ sym (get_or-take (i + 1) shares k f (omega arith))));
+          }
 
-  module _ (k : ℕ) (p : Share) (e : pick_from t 0 (take n now.shares) ≡ At k p) where
-    stands : Stands t 0 (take n now.shares) k p
-    stands = rw e at (stands_pick t 0 (take n now.shares))
+-- a machine for the share at an index is a machine for its job number, as the numbers differ
+give_other : (n : ℕ) (ps : List Share) → All (λ m. n ≢ m) (numbers_of (as_shares ps)) → give n (as_shares ps) ≡ as_shares ps
+give_other n [] h = refl
+give_other n (p ∷ ps) h = rw (ne_eqb p.job.number n (λ e. h.0 (sym e))) (ap (λ (qs : List Model.Share). as_share p ∷ qs) (give_other n ps h.1))
 
-    pub found_ready : (k < n) × Ready p
-    found_ready =
-        let o = is_open t (as_share p) stands.open' in
-        (omega (arith, stands.to, length-take-le n now.shares hn), record { more = o.more; below = o.below })
+give_at : (ps : List Share) (k : ℕ) (d : Share) → Apart ps → k < length ps
+    → give (get_or ps k d).job.number (as_shares ps) ≡ as_shares (set ps k (bumped (get_or ps k d)))
+unfolding bump
+give_at [] k d a l = absurd (omega arith)
+give_at (p ∷ ps) zero d a l = rw (eq-eqb p.job.number p.job.number refl) (ap (λ (qs : List Model.Share). as_share (bumped p) ∷ qs) (give_other p.job.number ps a.0))
+give_at (p ∷ ps) (suc k) d a l =
+    rw (ne_eqb p.job.number (get_or ps k d).job.number (unlike p.job.number ps k d a.0 (omega arith)))
+    (ap (λ (qs : List Model.Share). as_share p ∷ qs) (give_at ps k d a.1 (omega arith)))
 
-    there : (d : Model.Share) → get_or (map as_share (take n now.shares)) k d ≡ as_share p
-    there d = go (take n now.shares) k stands.to (rw (sub-zero k) at stands.there)
-      where
-        go : (ps : List Share) (k : ℕ) → k < 0 + length ps → ((d : Share) → get_or ps k d ≡ p) → get_or (map as_share ps) k d ≡ as_share p
-        go [] k l h = absurd (omega arith)
-        go (q ∷ ps) zero l h = ap as_share (h q)
-        go (q ∷ ps) (suc k) l h = go ps k (omega arith) h
+-- what is handed out when the choice is made
+module _ (t : ℕ) (ps : List Share) where
+  pub hand_none : Picked t ps None → (c : ℕ) → hand_out c t (as_shares ps) ≡ as_shares ps
+  hand_none p zero = refl
+  hand_none p (suc c) = rw p (hand_none p c)
 
-    module _ (r : Table) (f : r.shares ≡ set now.shares k (bumped p)) (d : Distinct (numbers_of (shares_of n now))) where
-      one_more : shares_of n r ≡ give p.job.number (shares_of n now)
-      unfolding shares_of bump
-      one_more =
-          ap (λ (l : List Share). map as_share (take n l)) f
-          ∙ ap (map as_share) (take-set-lt n now.shares k (bumped p) found_ready.0)
-          ∙ map_set as_share (take n now.shares) k (bumped p)
-          ∙ sym (give_at (map as_share (take n now.shares)) k (as_share p) d (omega (arith, length-map (take n now.shares) as_share, stands.to)) there)
+  module _ (k : ℕ) (p : IsNext t ps k) (d : Share) where
+    pub hand_ready : Ready (get_or ps k d)
+    hand_ready =
+        let o = (rw (p.chosen d) at (choice t (as_shares ps))).open' in
+        record { more = o.more; below = o.below }
 
-      chosen : next t (shares_of n now) ≡ some (as_share p)
-      unfolding shares_of
-      chosen = sym (pick_same t 0 (take n now.shares)) ∙ ap as_option e
+    module _ (q : Share) (e : q ≡ bumped (get_or ps k d)) (a : Apart ps) where
+      given : as_shares (set ps k q) ≡ give (get_or ps k d).job.number (as_shares ps)
+      given = ap (λ (r : Share). as_shares (set ps k r)) e ∙ sym (give_at ps k d a p.within)
 
-      pub found_step : (c : ℕ) → 0 < c → hand_out c t (shares_of n now) ≡ hand_out (c - 1) t (shares_of n r)
-      found_step zero l = absurd (omega arith)
-      found_step (suc c) l =
-          let z : suc c - 1 ≡ c = omega arith in
-          rw (z, one_more) (ap (λ (o : Option Model.Share). hand_out c t (give_to o (shares_of n now))) chosen)
+      pub hand_one : (m n : ℕ) → n < m → hand_out (m - n) t (as_shares ps) ≡ hand_out (m - (n + 1)) t (as_shares (set ps k q))
+      hand_one m n l =
+          let z : m - n ≡ suc (m - (n + 1)) = omega arith in
+          rw z (ap (λ o. hand_out (m - (n + 1)) t (give_to o (as_shares ps))) (p.chosen d) ∙ ap (hand_out (m - (n + 1)) t) (sym given))
 
-      pub found_distinct : Distinct (numbers_of (shares_of n r))
-      found_distinct = rw (one_more, numbers_give p.job.number (shares_of n now)) d
+      pub hand_apart : Apart (set ps k q)
+      hand_apart = rw (given, numbers_give (get_or ps k d).job.number (as_shares ps)) a
 
-      pub found_length : length r.shares ≡ length now.shares
-      found_length = ap length f ∙ length-set now.shares k (bumped p)
+-- a new slot
+pub clear_more : (xs ys : List Share) (i : ℕ) (d : Share) → ys ≡ map cleared (take i xs) ++ drop i xs → i < length ys → i < length xs
+    → set ys i (cleared (get_or ys i d)) ≡ map cleared (take (i + 1) xs) ++ drop (i + 1) xs
+clear_more xs ys i d e h k = map_over_more cleared xs ys i (get_or ys i d) k e (get_or_default ys i d (get_or ys i d) h)
 
--- clearing, one share after the other
-pub clear_step : (l : List Share) (i : ℕ) (d : Share) → i < length l → (now : List Share) → now ≡ swept cleared l l i
-    → set now i (cleared (get_or now i d)) ≡ swept cleared l l (suc i)
-clear_step l i d h now e =
-    rw e (ap (λ (p : Share). set (swept cleared l l i) i (cleared p)) (sweep_here cleared l l i d h) ∙ sweep_step cleared l l i d h h)
+clear_same : (ps : List Share) → as_shares (map cleared ps) ≡ map clear (as_shares ps)
+unfolding clear
+clear_same [] = refl
+clear_same (p ∷ ps) = ap (λ (qs : List Model.Share). as_share (cleared p) ∷ qs) (clear_same ps)
 
--- a cleared table is a cleared list of shares
-pub clear_shares : (n : ℕ) (t u : Table) → u.shares ≡ map cleared t.shares → shares_of n u ≡ map clear (shares_of n t)
-unfolding shares_of clear
-clear_shares n t u e = ap (λ (l : List Share). map as_share (take n l)) e ∙ go n t.shares
-  where
-    go : (n : ℕ) (l : List Share) → map as_share (take n (map cleared l)) ≡ map clear (map as_share (take n l))
-    go zero l = refl
-    go (suc n) [] = refl
-    go (suc n) (p ∷ l) = ap (λ (m : List Model.Share). as_share (cleared p) ∷ m) (go n l)
+module _ (ps qs : List Share) (e : qs ≡ map cleared ps) where
+  pub clear_fill : (c t : ℕ) → fill c t (as_shares ps) ≡ hand_out c t (as_shares qs)
+  unfolding fill
+  clear_fill c t = rw (e, clear_same ps) refl
+
+  pub clear_apart : Apart ps → Apart qs
+  clear_apart a = rw (e, clear_same ps, numbers_clear (as_shares ps)) a

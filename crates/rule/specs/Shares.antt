@@ -1,24 +1,29 @@
--- The shares of the code as shares of the model, and each step of the code as a function.
-use Rattle.std.specs.Prelude.{ℕ, suc, ◌+◌, ◌-◌, ◌<◌, cond, List, [], ◌∷◌, map, take}
+-- The shares of the code as shares of the model, and what each step of the code does to them.
+use Rattle.std.specs.Prelude.{ℕ, ◌+◌, ◌-◌, ◌<◌, ◌≡◌, List, map, length}
+use Rattle.std.specs.declared.option.Option.{Option}
+use Rattle.std.specs.declared.option.Option.TheVariants.{None, Some}
+use Rattle.std.specs.List.{HoldsAt}
+use Rattle.std.proofs.Math.Option.{some, none}
 use Rattle.model.specs.Lists.{Distinct}
 use Rattle.model.specs.Rule as Model
-use Rattle.model.specs.Rule.{qualifies, before}
+use Rattle.model.specs.Rule.{next}
+use Rattle.figures.specs.declared.Job.{Job}
 use Rattle.figures.specs.Jobs.{as_job}
 use Rattle.rule.specs.declared.Share.{Share}
-use Rattle.rule.specs.declared.Table.{Table}
-use Rattle.rule.specs.declared.Chosen.{Chosen}
-use Rattle.rule.specs.declared.Chosen.TheVariants.{Nothing, At}
 
 abbrev pub as_share : Share → Model.Share
 as_share p = record { job = as_job p.job; left = p.left; given = p.given }
 
--- the first n shares of the table
-unfoldable pub shares_of : ℕ → Table → List Model.Share
-shares_of n table = map as_share (take n table.shares)
+abbrev pub as_shares : List Share → List Model.Share
+as_shares shares = map as_share shares
 
--- the first n shares are of jobs with different numbers
-abbrev pub Apart : ℕ → Table → Type 0
-Apart n table = Distinct (map (λ p. p.job.number) (shares_of n table))
+-- a job before any slot is filled
+abbrev pub fresh_of : Job → Share
+fresh_of j = record { job = j; left = j.work; given = 0 }
+
+-- the shares are of jobs with different numbers
+abbrev pub Apart : List Share → Type 0
+Apart shares = Distinct (map (λ p. p.job.number) (as_shares shares))
 
 -- one more machine, one unit less of work
 abbrev pub bumped : Share → Share
@@ -32,12 +37,12 @@ pub record Ready (p : Share) : Type 0 where
   pub more : 0 < p.left
   pub below : p.given < p.job.bound
 
--- of a share at its index and the choice so far, the one that goes before the other
-unfoldable pub choose_of : ℕ → Share → Chosen → Chosen
-choose_of i p Nothing = At i p
-choose_of i p (At k q) = cond (before (as_share p) (as_share q)) (At i p) (At k q)
+-- the share at index i is the one that the model's rule gives the next machine of slot t to
+pub record IsNext (t : ℕ) (shares : List Share) (i : ℕ) : Type 0 where
+  pub within : i < length shares
+  pub chosen : HoldsAt (λ p. next t (as_shares shares) ≡ some (as_share p)) shares i
 
--- the choice among shares, of which the first stands at index i
-abbrev pub pick_from : ℕ → ℕ → List Share → Chosen
-pick_from t i [] = Nothing
-pick_from t i (p ∷ ps) = cond (qualifies t (as_share p)) (choose_of i p (pick_from t (suc i) ps)) (pick_from t (suc i) ps)
+-- the index of that share, or none where no share qualifies
+abbrev pub Picked : ℕ → List Share → Option ℕ → Type 0
+Picked t shares None = next t (as_shares shares) ≡ none
+Picked t shares (Some i) = IsNext t shares i

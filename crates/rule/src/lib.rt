@@ -1,144 +1,100 @@
-// The one planning core: 01's rule in one slot, unit by unit, the table handed on by value for each machine.
+// The one planning core: 01's rule in one slot, machine by machine.
 #![tactic(auto)]
 
-ghost use Rattle.std.specs.Prelude.{◌≡◌, map, ◌≤◌, ◌<◌, take, set};
-ghost use Rattle.model.specs.Rule.{qualifies, before, hand_out, fill};
-ghost use Rattle.rule.specs.Shares.{as_share, shares_of, Apart, bumped, cleared, choose_of, pick_from, Ready};
+ghost use Rattle.std.specs.Prelude.{◌≡◌, map};
+ghost use Rattle.model.specs.Rule.{qualifies, before, fill};
+ghost use Rattle.rule.specs.Shares.{as_share, as_shares, fresh_of, Apart, bumped, cleared, Picked, Ready};
 
+use arrayvec::ArrayVec;
 use figures::Job;
 
 // A job while a plan is made: what is left of its work, and the machines given to it in the slot at hand.
-#[derive(Clone, Copy)]
+#[derive(Clone, Copy, Default)]
 pub struct Share {
     pub job: Job,
     pub left: u32,
     pub given: u32,
 }
 
-#[derive(Clone, Copy)]
-pub struct Table {
-    pub shares: [Share; 32],
+pub type Shares = ArrayVec<Share, 32>;
+
+impl Share {
+    // A job before any slot is filled.
+    pub fn new(job: Job) -> Share
+        ensures { result ≡ fresh_of job }
+    {
+        Share {
+            job,
+            left: job.work,
+            given: 0,
+        }
+    }
+
+    // It can take one more machine in slot t.
+    #[tactic(auto, unfolding(model::specs::Rule::qualifies))]
+    fn may_take(&self, t: u32) -> bool
+        ensures { result ≡ qualifies t (as_share self.now) }
+    {
+        t <= self.job.deadline && 0 < self.left && self.given < self.job.bound
+    }
+
+    // It goes before another: the greater run length first, of equal ones the smaller job number. No derive has this order:
+    // its keys run in opposite directions, and the first is worked out.
+    #[tactic(auto, unfolding(model::specs::Rule::before, model::specs::Rule::run_left))]
+    fn goes_before(&self, other: &Share) -> bool
+        ensures { result ≡ before (as_share self.now) (as_share other.now) }
+    {
+        let own = figures::run_length(self.left, self.job.bound);
+        let others = figures::run_length(other.left, other.job.bound);
+        others < own || own == others && self.job.number < other.job.number
+    }
+
+    // One machine more for it.
+    fn give(&mut self)
+        requires { Ready self.old }
+        ensures { self.new ≡ bumped self.old }
+    {
+        self.left -= 1;
+        self.given += 1;
+    }
 }
 
-// The share that the next machine goes to, with its index.
-#[derive(Clone, Copy)]
-pub enum Chosen {
-    Nothing,
-    At(usize, Share),
-}
-
-// The share can take one more machine in slot t.
-fn may_take(p: Share, t: u32) -> bool
-    ensures { result ≡ qualifies t (as_share p) }
+// The index of the share that the next machine of slot t goes to, if one qualifies.
+#[tactic(auto, using(crate::proofs::Laws::picked_still, crate::proofs::Laws::picked_first, crate::proofs::Laws::picked_new, crate::proofs::Laws::picked_old))]
+fn pick(shares: &[Share], t: u32) -> Option<usize>
+    requires { Apart shares.now }
+    ensures { Picked t shares.now result }
 {
-    let j = p.job;
-    if j.deadline < t {
-        return false;
-    }
-    if p.left == 0 {
-        return false;
-    }
-    p.given < j.bound
-}
-
-// Share p goes before share q.
-fn goes_before(p: Share, q: Share) -> bool
-    ensures { result ≡ before (as_share p) (as_share q) }
-{
-    let j = p.job;
-    let i = q.job;
-    let a = figures::run_length(p.left, j.bound);
-    let b = figures::run_length(q.left, i.bound);
-    if b < a {
-        return true;
-    }
-    if a < b {
-        return false;
-    }
-    j.number < i.number
-}
-
-// Of share p at index i and the choice so far, the one that goes before the other.
-fn choose(i: usize, p: Share, best: Chosen) -> Chosen
-    ensures { result ≡ choose_of i p best }
-{
-    let Chosen::At(k, q) = best else {
-        return Chosen::At(i, p);
-    };
-    if goes_before(p, q) {
-        return Chosen::At(i, p);
-    }
-    Chosen::At(k, q)
-}
-
-// The share that the next machine of slot t goes to, among the first n.
-fn pick(table: Table, n: usize, t: u32) -> Chosen
-    requires { n ≤ 32 }
-    ensures { result ≡ pick_from t 0 (take n table.shares) }
-{
-    let mut best = Chosen::Nothing;
-    let mut i = n;
-    while 0 < i {
-        i -= 1;
-        let p = table.shares[i];
-        if may_take(p, t) {
-            best = choose(i, p, best);
+    let mut best = None;
+    for (i, share) in shares.iter().enumerate() {
+        if share.may_take(t) && best.is_none_or(|k| share.goes_before(&shares[k])) {
+            best = Some(i);
         }
     }
     best
 }
 
-// The table with one machine more for share p at index i.
-fn give(table: Table, i: usize, p: Share) -> Table
-    requires { (i < 32) × Ready p }
-    ensures { result.shares ≡ set table.shares i (bumped p) }
-{
-    let job = p.job;
-    let q = Share {
-        job,
-        left: p.left - 1,
-        given: p.given + 1,
-    };
-    let mut next = table;
-    next.shares[i] = q;
-    next
-}
-
-// At most c machines handed out in slot t, one at a time, among the first n shares.
-fn hand_out(table: Table, n: usize, t: u32, c: u32) -> Table
-    requires { (n ≤ 32) × Apart n table }
-    ensures { shares_of n result ≡ hand_out c t (shares_of n table) }
-{
-    let mut now = table;
-    let mut left = c;
-    while 0 < left {
-        let Chosen::At(i, p) = pick(now, n, t) else {
-            return now;
-        };
-        now = give(now, i, p);
-        left -= 1;
-    }
-    now
-}
-
 // A new slot: nothing is given in it yet.
-fn clear(table: Table) -> Table
-    ensures { result.shares ≡ map cleared table.shares }
+#[tactic(auto, using(crate::proofs::Laws::clear_more))]
+fn clear(shares: &mut [Share])
+    ensures { shares.new ≡ map cleared shares.old }
 {
-    let mut now = table;
-    let mut i: usize = 0;
-    while i < 32 {
-        now.shares[i].given = 0;
-        i += 1;
+    for share in shares.iter_mut() {
+        share.given = 0;
     }
-    now
 }
 
-// Slot t filled with at most c machines.
-pub fn fill_slot(table: Table, n: usize, t: u32, c: u32) -> Table
-    requires { (n ≤ 32) × Apart n table }
-    ensures { shares_of n result ≡ fill c t (shares_of n table) }
+// Slot t filled with at most so many machines, handed out one at a time.
+#[tactic(auto, using(crate::proofs::Laws::clear_fill, crate::proofs::Laws::clear_apart, crate::proofs::Laws::hand_none))]
+pub fn fill_slot(shares: &mut [Share], t: u32, machines: u32)
+    requires { Apart shares.old }
+    ensures { as_shares shares.new ≡ fill machines t (as_shares shares.old) }
 {
-    let fresh = clear(table);
-    hand_out(fresh, n, t, c)
+    clear(shares);
+    for _ in 0..machines {
+        let Some(i) = pick(shares, t) else {
+            return;
+        };
+        shares[i].give();
+    }
 }

@@ -1,112 +1,68 @@
 // The desk's table: the search for a job number, a job seated by rising number, a job taken out.
 #![tactic(auto)]
 
-ghost use Rattle.std.specs.Prelude.{◌≡◌, ◌∷◌, ◌++◌, [], ◌+◌, ◌≤◌, ◌<◌, length, take, drop};
+ghost use Rattle.std.specs.Prelude.{◌≡◌, ◌<◌, ◌++◌, ◌∷◌, [], length, take};
+ghost use Rattle.std.specs.List.{insert, remove};
 ghost use Rattle.promise.specs.Desk.{unused, held_of, table, desk_of};
 ghost use Rattle.promise.specs.DeskCalls.{seated, without};
-ghost use Rattle.seats.specs.Seats.{find_in, rank_in};
+ghost use Rattle.seats.specs.Seats.{find_in, rank_in, found};
 
 use promise::{Desk, Held};
 
-// Where a job number is held.
-#[derive(Clone, Copy)]
-pub enum Found {
-    Nothing,
-    At(usize),
-}
-
-pub fn free_seat() -> Held
-    ensures { result ≡ unused }
+// The seat of a job number, among held jobs.
+pub fn find(held: &[Held], number: u32) -> Option<usize>
+    ensures { result ≡ find_in number 0 held.now }
 {
-    Held {
-        number: 0,
-        work: 0,
-        left: 0,
-        deadline: 0,
-        bound: 0,
-        slots: 0,
-    }
+    held.iter().position(|h| h.number == number)
 }
 
-// The seat of a job number, among the first n.
-pub fn find(desk: Desk, n: usize, number: u32) -> Found
-    requires { n ≤ 32 }
-    ensures { result ≡ find_in number 0 (take n desk.seats) }
+// How many held jobs stand before a new one of this number.
+fn rank(held: &[Held], number: u32) -> usize
+    ensures { result ≡ rank_in number held.now }
 {
-    let mut i: usize = 0;
-    while i < n {
-        let h = desk.seats[i];
-        if h.number == number {
-            return Found::At(i);
-        }
-        i += 1;
-    }
-    Found::Nothing
+    held.iter()
+        .position(|h| number < h.number)
+        .unwrap_or(held.len())
 }
 
-// How many of the first n seats stand before a new job of this number.
-fn rank(desk: Desk, n: usize, number: u32) -> usize
-    requires { n ≤ 32 }
-    ensures { result ≡ rank_in number (take n desk.seats) }
+// The seats with a job put in; the last seat falls off.
+#[tactic(auto, using(crate::proofs::Laws::put_in))]
+fn insert(seats: &mut [Held], at: usize, h: Held)
+    requires { at < length seats.old }
+    ensures { seats.new ≡ take (length seats.old) (insert seats.old at h) }
 {
-    let mut i: usize = 0;
-    while i < n {
-        let h = desk.seats[i];
-        if number < h.number {
-            return i;
-        }
-        i += 1;
-    }
-    n
+    seats[at..].rotate_right(1);
+    seats[at] = h;
 }
 
-// The table with a job put in before a seat; the last seat falls off.
-fn insert(desk: Desk, at: usize, h: Held) -> Desk
-    requires { at < 32 }
-    ensures { (result.seats ≡ take 32 (take at desk.seats ++ h ∷ drop at desk.seats)) × (result.machines ≡ desk.machines) × (result.clock ≡ desk.clock) }
+// The seats with one freed; the later ones move up, and it goes to the end.
+fn remove(seats: &mut [Held], at: usize)
+    requires { at < length seats.old }
+    ensures { seats.new ≡ remove seats.old at ++ unused ∷ [] }
 {
-    let mut next = desk;
-    let mut carried = h;
-    let mut i = at;
-    while i < 32 {
-        let old = next.seats[i];
-        next.seats[i] = carried;
-        carried = old;
-        i += 1;
-    }
-    next
+    seats[at] = Held::default();
+    seats[at..].rotate_left(1);
 }
 
-// The table without a seat: the ones after it move up, and the last is free.
-fn remove(desk: Desk, at: usize) -> Desk
-    requires { at < 32 }
-    ensures { (result.seats ≡ take at desk.seats ++ (drop (at + 1) desk.seats ++ (unused ∷ []))) × (result.machines ≡ desk.machines) × (result.clock ≡ desk.clock) }
-{
-    let mut next = desk;
-    let mut i = at;
-    while i < 31 {
-        let later = next.seats[i + 1];
-        next.seats[i] = later;
-        i += 1;
-    }
-    let free = free_seat();
-    next.seats[31] = free;
-    next
-}
-
-// A new job in its seat, by rising number.
+// A new job in its seat, by rising number, at a desk that holds n.
+#[tactic(auto, using(crate::proofs::Laws::ranked_within, crate::proofs::Laws::seated_in))]
 pub fn seat_in(desk: Desk, n: usize, h: Held) -> Desk
     requires { (n ≡ length (held_of desk)) × (n < 32) × (desk.seats ≡ table (held_of desk)) }
     ensures { result ≡ desk_of desk.machines desk.clock (seated h (held_of desk)) }
 {
-    let at = rank(desk, n, h.number);
-    insert(desk, at, h)
+    let at = rank(&desk.seats[..n], h.number);
+    let mut next = desk;
+    insert(&mut next.seats, at, h);
+    next
 }
 
-// The desk without a job number that is held at a seat.
-pub fn take_out(desk: Desk, n: usize, at: usize, number: u32) -> Desk
-    requires { (n ≡ length (held_of desk)) × (desk.seats ≡ table (held_of desk)) × (find_in number 0 (held_of desk) ≡ Found.At at) }
+// The desk without the job number that is held at a seat.
+#[tactic(auto, using(crate::proofs::Laws::found_within, crate::proofs::Laws::taken_out))]
+pub fn take_out(desk: Desk, at: usize, number: u32) -> Desk
+    requires { (desk.seats ≡ table (held_of desk)) × (find_in number 0 (held_of desk) ≡ found at) }
     ensures { result ≡ desk_of desk.machines desk.clock (without number (held_of desk)) }
 {
-    remove(desk, at)
+    let mut next = desk;
+    remove(&mut next.seats, at);
+    next
 }

@@ -1,201 +1,129 @@
 // Whether a desk's record is sound: its seats one after the other, then the boundary walk over its jobs.
 #![tactic(auto)]
 
-ghost use Rattle.std.specs.Prelude.{◌≡◌, ◌≤◌, length, take, drop};
-ghost use Rattle.walk.specs.Walk.{as_jobs, as_short};
-ghost use Rattle.promise.specs.Desk.{held_of, to_plan};
+ghost use Rattle.std.specs.Prelude.{◌≡◌, ◌≤◌, IsTrue, [], ◌∷◌, length};
+ghost use Rattle.model.specs.Boundaries.{least_short};
+ghost use Rattle.figures.specs.Jobs.{as_job, as_jobs};
+ghost use Rattle.promise.specs.Desk.{held_of, to_plan, jobs_for};
 ghost use Rattle.promise.specs.DeskCalls.{seat_ok, seat_fits, is_unused, all_unused, seats_ok, none_short, is_sound};
 
-use figures::Job;
+use figures::{Job, Jobs};
 use promise::{Desk, Held};
-use walk::{Fit, Jobs};
 
 // A seat in use is as it must be; its number is looked at by the caller.
 #[tactic(auto, unfolding(promise::specs::DeskCalls::seat_ok))]
-fn seat_ok(h: Held, clock: u32) -> bool
-    ensures { result ≡ seat_ok clock h }
+fn seat_ok(h: &Held, clock: u32) -> bool
+    ensures { result ≡ seat_ok clock h.now }
 {
-    if 65535 < h.number {
-        return false;
-    }
-    if h.work < 1 {
-        return false;
-    }
-    if 60000 < h.work {
-        return false;
-    }
-    if h.left < 1 {
-        return false;
-    }
-    if h.work < h.left {
-        return false;
-    }
-    if h.deadline <= clock {
-        return false;
-    }
-    if 100000 < h.deadline {
-        return false;
-    }
-    seat_fits(h, clock)
+    h.number <= 65535
+        && (1..=60000).contains(&h.work)
+        && (1..=h.work).contains(&h.left)
+        && clock < h.deadline
+        && h.deadline <= 100000
+        && seat_fits(h, clock)
 }
 
 // The rest of it: bound, slots, and the admitted work within them.
 #[tactic(auto, unfolding(promise::specs::DeskCalls::seat_fits))]
-fn seat_fits(h: Held, clock: u32) -> bool
-    requires { clock ≤ h.deadline }
-    ensures { result ≡ seat_fits clock h }
+fn seat_fits(h: &Held, clock: u32) -> bool
+    requires { clock ≤ h.now.deadline }
+    ensures { result ≡ seat_fits clock h.now }
 {
-    if h.bound < 1 {
-        return false;
-    }
-    if 64 < h.bound {
-        return false;
-    }
-    if h.slots < 1 {
-        return false;
-    }
-    if 168 < h.slots {
-        return false;
-    }
-    if h.slots < h.deadline - clock {
-        return false;
-    }
-    h.work <= h.bound * h.slots
+    (1..=64).contains(&h.bound)
+        && (1..=168).contains(&h.slots)
+        && h.deadline - clock <= h.slots
+        && h.work <= h.bound * h.slots
 }
 
+// A seat without a job: all zeros.
 #[tactic(auto, unfolding(promise::specs::DeskCalls::is_unused))]
-fn is_unused(h: Held) -> bool
-    ensures { result ≡ is_unused h }
+fn is_unused(h: &Held) -> bool
+    ensures { result ≡ is_unused h.now }
 {
-    if h.number != 0 {
-        return false;
-    }
-    if h.work != 0 {
-        return false;
-    }
-    if h.left != 0 {
-        return false;
-    }
-    if h.deadline != 0 {
-        return false;
-    }
-    if h.bound != 0 {
-        return false;
-    }
-    h.slots == 0
+    *h == Held::default()
 }
 
-// All seats from one on are unused.
-fn all_unused(desk: Desk, from: usize) -> bool
-    requires { from ≤ 32 }
-    ensures { result ≡ all_unused (drop from desk.seats) }
+// All of the seats are unused.
+fn all_unused(seats: &[Held]) -> bool
+    ensures { result ≡ all_unused seats.now }
 {
-    let mut i = from;
-    while i < 32 {
-        let h = desk.seats[i];
-        if is_unused(h) {
-            i += 1;
-        } else {
-            return false;
-        }
-    }
-    true
+    seats.iter().all(is_unused)
 }
 
 // The seats in use rise and are as they must be, and all others are unused.
-fn seats_ok(desk: Desk) -> bool
-    ensures { result ≡ seats_ok desk.clock 0 desk.seats }
+fn seats_ok(seats: &[Held], clock: u32) -> bool
+    ensures { result ≡ seats_ok clock 0 seats.now }
 {
-    let mut before: u32 = 0;
-    let mut i: usize = 0;
-    while i < 32 {
-        let h = desk.seats[i];
+    let mut before = 0;
+    for (i, h) in seats.iter().enumerate() {
         if h.number == 0 {
-            return all_unused(desk, i);
+            return all_unused(&seats[i..]);
         }
-        if h.number <= before {
+        if h.number <= before || !seat_ok(h, clock) {
             return false;
         }
-        if seat_ok(h, desk.clock) {
-            before = h.number;
-        } else {
-            return false;
-        }
-        i += 1;
+        before = h.number;
     }
     true
 }
 
-// How many jobs are held: the seats before the first with number 0.
-#[tactic(auto, unfolding(promise::specs::Desk::held_of))]
-pub fn held_count(desk: Desk) -> usize
-    ensures { result ≡ length (held_of desk) }
+// The held jobs: the seats before the first with number 0.
+pub fn held(desk: &Desk) -> &[Held]
+    ensures seats { result.now ≡ held_of desk.now }
+    ensures few { length result.now ≤ 32 }
 {
-    let mut i: usize = 0;
-    while i < 32 {
-        let h = desk.seats[i];
-        if h.number == 0 {
-            return i;
-        }
-        i += 1;
-    }
-    32
+    let n = desk
+        .seats
+        .iter()
+        .position(|h| h.number == 0)
+        .unwrap_or(desk.seats.len());
+    &desk.seats[..n]
 }
 
-// The jobs of the first n seats, as they count for planning.
-pub fn jobs_of(desk: Desk, n: usize) -> Jobs
-    requires { n ≤ 32 }
-    ensures { as_jobs n result ≡ to_plan desk.machines desk.clock (take n desk.seats) }
+// A held job, as it counts for planning.
+#[tactic(auto, unfolding(promise::specs::Desk::to_plan, model::specs::Jobs::counted, promise::specs::Desk::as_planned))]
+fn planned(h: &Held, machines: u32, clock: u32) -> Job
+    ensures { to_plan machines clock (h.now ∷ []) ≡ as_job result ∷ [] }
 {
-    let none = Job {
-        number: 0,
-        work: 0,
-        deadline: 0,
-        bound: 0,
-    };
-    let mut list = Jobs { jobs: [none; 32] };
-    let mut i = n;
-    while 0 < i {
-        i -= 1;
-        let h = desk.seats[i];
-        let j = Job {
-            number: h.number,
-            work: h.left,
-            deadline: figures::less(h.deadline, desk.clock),
-            bound: figures::width(desk.machines, h.bound),
-        };
-        list.jobs[i] = j;
+    Job {
+        number: h.number,
+        work: h.left,
+        deadline: h.deadline.saturating_sub(clock),
+        bound: figures::width(machines, h.bound),
     }
-    list
 }
 
-// The walk comes to no short boundary.
-fn fits(fit: Fit) -> bool
-    ensures { result ≡ none_short (as_short fit) }
+// Held jobs as they count for planning.
+#[tactic(auto, using(crate::proofs::Laws::loaded_more), unfolding(promise::specs::Desk::to_plan, model::specs::Jobs::counted))]
+pub fn jobs_of(held: &[Held], machines: u32, clock: u32) -> Jobs
+    requires { length held.now ≤ 32 }
+    ensures { as_jobs result.items ≡ to_plan machines clock held.now }
 {
-    match fit {
-        Fit::Fits => true,
-        Fit::Short(_, _) => false,
+    let mut jobs = Jobs::new();
+    for h in held {
+        jobs.push(planned(h, machines, clock));
     }
+    jobs
+}
+
+// No boundary is short of room for the held jobs.
+#[tactic(auto, using(crate::proofs::Laws::held_jobs, crate::proofs::Laws::held_small, crate::proofs::Laws::short_or_ok))]
+fn fits(desk: &Desk) -> bool
+    requires machines { desk.now.machines ≤ 64 }
+    requires seats { IsTrue (seats_ok desk.now.clock 0 desk.now.seats) }
+    ensures { result ≡ none_short (least_short desk.now.machines (jobs_for desk.now)) }
+{
+    let jobs = jobs_of(held(desk), desk.machines, desk.clock);
+    walk::walk(&jobs, desk.machines).is_ok()
 }
 
 // The record is sound.
 #[tactic(auto, unfolding(promise::specs::DeskCalls::is_sound))]
-pub fn is_sound(desk: Desk) -> bool
-    ensures { result ≡ is_sound desk }
+pub fn is_sound(desk: &Desk) -> bool
+    ensures { result ≡ is_sound desk.now }
 {
-    if desk.machines < 1 {
-        return false;
-    }
-    if 64 < desk.machines {
-        return false;
-    }
-    if 100000 < desk.clock {
-        return false;
-    }
-    if seats_ok(desk) {
-        let n = held_count(desk);
-        return fits(walk::walk(jobs_of(desk, n), n, desk.machines));
-    }
-    false
+    (1..=64).contains(&desk.machines)
+        && desk.clock <= 100000
+        && seats_ok(&desk.seats, desk.clock)
+        && fits(desk)
 }

@@ -1,130 +1,73 @@
 -- The refusals that come before any number is read, at the window and of the numbers that a list holds.
-use Prim.Native.Nat.{ℕ, ◌*◌, ◌/◌, ◌%◌, ◌≤◌, ◌<◌}
+use Prim.Native.Nat.{ℕ, ◌/◌, ◌%◌}
 use native.Mathlib.Omega.{arith}
-use mathlib.Core.Path.{◌≡◌, refl, sym, ◌∙◌, ap}
+use mathlib.Core.Path.{◌≡◌, refl, sym, ◌∙◌}
 use mathlib.Core.Logic.{◌≢◌}
 use mathlib.Core.Bool.{Bool, true, false, cond, not, ◌||◌}
 use mathlib.Core.List.{List}
 use lib.Dec.{ltb, eqb}
-use lib.ListN.{length, take}
-use borrow.Author.Tests.{lt-ltb, le-ltb, eq-eqb, ne_eqb, eqb-true, ltb-false}
+use lib.ListN.{length}
+use borrow.Author.Tests.{eq-eqb, ne_eqb, eqb-true}
 use Rattle.promise.specs.declared.Answer.{Answer}
-use Rattle.promise.specs.Answers.{refusal, fault, first}
+use Rattle.promise.specs.declared.Refusal.{Refusal}
+use Rattle.promise.specs.Answers.{yes, refusal, fault, first}
 use Rattle.promise.specs.Rows.{row_count, rows_fault, count_fault, length_fault, many_fault, list_fault}
-use Rattle.promise.specs.Window.{words_from, words_of, bytes_fault, pack}
-use Rattle.promise.proofs.Ladder.{first_zero, first_zero_front}
+use Rattle.promise.specs.Window.{words_of, bytes_fault}
+use Rattle.std.specs.Result.{IsErrAnd}
+use Rattle.std.specs.declared.result.Result.{Result}
+use Rattle.rows.specs.Rows.{shape_fault}
+use Rattle.promise.specs.Refusals.{numbered, as_answer}
+use Rattle.promise.proofs.Ladder.{same_number, first_first, first_zero_front}
 use Rattle.promise.proofs.Words.{words_count, row_count_lem}
-use Rattle.window.specs.Bytes.{early_fault}
-
--- a refusal that names no place and no amount
-abbrev pub Whole : Answer → Type 0
-Whole a = a ≡ refusal a.number 0 0
-
-pub fault_whole : (t : Bool) (number : ℕ) → Whole (fault t (refusal number 0 0))
-fault_whole true number = refl
-fault_whole false number = refl
-
-pub first_whole : (a b : Answer) → Whole a → Whole b → Whole (first a b)
-first_whole a b p q = go (eqb a.number 0)
-  where
-    go : (t : Bool) → Whole (cond t b a)
-    go true = q
-    go false = p
-
-pub whole_packed : (number : ℕ) → number ≡ pack (refusal number 0 0)
-unfolding pack
-whole_packed number = omega arith
+use Rattle.window.specs.Words.{early_fault}
+use Rattle.promise.proofs.Exits.{told}
+use Rattle.window.proofs.Refused.{refuses}
 
 module _ (machines : ℕ) (list : List ℕ) where
-  -- test by test
-  pub none_of_machines : machines < 1 → 1 ≡ (early_fault machines list).number
-  unfolding early_fault bytes_fault count_fault
-  none_of_machines l = rw (lt-ltb machines 1 l) refl
+  -- the shape of the bytes is tested as that of the numbers
+  early_shape : shape_fault machines (length list) 16 ≡ early_fault machines list
+  unfolding early_fault bytes_fault many_fault shape_fault
+  early_shape = rw (row_count_lem list) (sym (first_first (count_fault machines) (fault (not (eqb (length list % 16) 0)) (refusal 2 0 0)) (fault (ltb 32 (length list / 16)) (refusal 3 0 0))))
 
-  pub many_machines : 1 ≤ machines → 64 < machines → 1 ≡ (early_fault machines list).number
-  unfolding early_fault bytes_fault count_fault
-  many_machines k l = rw (le-ltb machines 1 k, lt-ltb 64 machines l) refl
+  pub shape_stops : {A : Type 0} (r : Result A Refusal) (e : Refusal)
+      → IsErrAnd r (λ d. d ≡ e) → numbered e ≡ shape_fault machines (length list) 16 → as_answer r ≡ early_fault machines list
+  shape_stops r e h m = told r e _ h (m ∙ early_shape)
 
-  module _ (low : 1 ≤ machines) (high : machines ≤ 64) where
-    pub broken_row : length list % 16 ≢ 0 → 2 ≡ (early_fault machines list).number
-    unfolding early_fault bytes_fault count_fault
-    broken_row h = rw (le-ltb machines 1 low, le-ltb 64 machines high, ne_eqb (length list % 16) 0 h) refl
-
-    module _ (rows : length list % 16 ≡ 0) where
-      pub many_rows : 32 < length list / 16 → 3 ≡ (early_fault machines list).number
-      unfolding early_fault bytes_fault count_fault many_fault
-      many_rows h =
-          rw (le-ltb machines 1 low, le-ltb 64 machines high, eq-eqb (length list % 16) 0 rows, row_count_lem list, lt-ltb 32 (length list / 16) h) refl
-
-      pub none_early : length list / 16 ≤ 32 → 0 ≡ (early_fault machines list).number
-      unfolding early_fault bytes_fault count_fault many_fault
-      none_early h =
-          rw (le-ltb machines 1 low, le-ltb 64 machines high, eq-eqb (length list % 16) 0 rows, row_count_lem list, le-ltb 32 (length list / 16) h) refl
-
-  early_whole : Whole (early_fault machines list)
-  unfolding early_fault bytes_fault count_fault many_fault
-  early_whole =
-      first_whole _ _
-      (first_whole _ _ (fault_whole (ltb machines 1 || ltb 64 machines) 1) (fault_whole (not (eqb (length list % 16) 0)) 2))
-      (fault_whole (ltb 32 (row_count (words_of list))) 3)
+  pub shape_passed : yes ≡ shape_fault machines (length list) 16 → yes ≡ early_fault machines list
+  shape_passed y = y ∙ early_shape
 
   -- neither 1 nor 2
   module _ (z : (bytes_fault machines list).number ≡ 0) where
-    tests : ((ltb machines 1 || ltb 64 machines) ≡ false) × (eqb (length list % 16) 0 ≡ true)
+    tests : (count_fault machines ≡ yes) × (length list % 16 ≡ 0)
     unfolding bytes_fault count_fault
-    tests = go (ltb machines 1 || ltb 64 machines) (eqb (length list % 16) 0) z
+    tests = go (ltb machines 1 || ltb 64 machines) (eqb (length list % 16) 0) refl z
       where
-        go : (s t : Bool) → (first (fault s (refusal 1 0 0)) (fault (not t) (refusal 2 0 0))).number ≡ 0 → (s ≡ false) × (t ≡ true)
-        go true t e = absurd (omega arith)
-        go false true e = (refl, refl)
-        go false false e = absurd (omega arith)
-
-    whole_rows : length list % 16 ≡ 0
-    whole_rows = eqb-true (length list % 16) 0 tests.1
+        go : (s t : Bool) → eqb (length list % 16) 0 ≡ t → (first (fault s (refusal 1 0 0)) (fault (not t) (refusal 2 0 0))).number ≡ 0
+            → (fault s (refusal 1 0 0) ≡ yes) × (length list % 16 ≡ 0)
+        go true t p e = absurd (omega arith)
+        go false true p e = (refl, eqb-true (length list % 16) 0 p)
+        go false false p e = absurd (omega arith)
 
     -- then what is wrong with the numbers is a 3 or in the rows
     three_next : list_fault machines (words_of list) ≡ first (many_fault (words_of list)) (rows_fault (words_of list) 0 (row_count (words_of list)))
-    unfolding list_fault count_fault length_fault
-    three_next = rw (tests.0, eq-eqb (length (words_of list) % 4) 0 (omega (arith, words_count list, whole_rows))) refl
+    unfolding list_fault length_fault
+    three_next = rw (tests.0, eq-eqb (length (words_of list) % 4) 0 (omega (arith, words_count list, tests.1))) refl
 
   -- an early refusal is that of the whole list
-  pub refused_early : (early : ℕ) → early ≡ (early_fault machines list).number → early ≢ 0 → (rest : Answer)
-      → refusal early 0 0 ≡ first (bytes_fault machines list) (first (list_fault machines (words_of list)) rest)
+  pub refused_early : (e : Refusal) → numbered e ≡ early_fault machines list → (rest : Answer)
+      → numbered e ≡ first (bytes_fault machines list) (first (list_fault machines (words_of list)) rest)
   unfolding early_fault
-  refused_early early e h rest = ap (λ (n : ℕ). refusal n 0 0) e ∙ sym early_whole ∙ go (eqb bytes.number 0) refl (λ z. h (e ∙ z))
+  refused_early e h rest = h ∙ go (eqb (bytes_fault machines list).number 0) refl (refuses e _ h)
     where
-      bytes : Answer
-      bytes = bytes_fault machines list
-
       many : Answer
       many = many_fault (words_of list)
 
-      go : (t : Bool) → eqb bytes.number 0 ≡ t → (cond t many bytes).number ≢ 0
-          → cond t many bytes ≡ cond t (first (list_fault machines (words_of list)) rest) bytes
-      go true p q = rw (three_next (eqb-true bytes.number 0 p), ne_eqb many.number 0 q, ne_eqb many.number 0 q) refl
+      go : (t : Bool) → eqb (bytes_fault machines list).number 0 ≡ t → (cond t many (bytes_fault machines list)).number ≢ 0
+          → cond t many (bytes_fault machines list) ≡ cond t (first (list_fault machines (words_of list)) rest) (bytes_fault machines list)
+      go true p q = rw (three_next (eqb-true (bytes_fault machines list).number 0 p), ne_eqb many.number 0 q, ne_eqb many.number 0 q) refl
       go false p q = refl
 
   -- a list that is read
-  module _ (early : ℕ) (e : early ≡ (early_fault machines list).number) (z : early ≡ 0) where
-    bytes_zero : (bytes_fault machines list).number ≡ 0
-    unfolding early_fault
-    bytes_zero = first_zero_front (bytes_fault machines list) (many_fault (words_of list)) (sym e ∙ z)
-
-    read_whole : length list % 16 ≡ 0
-    read_whole = whole_rows bytes_zero
-
-    pub read_next : (rest : Answer) → first (bytes_fault machines list) rest ≡ rest
-    read_next rest = rw (eq-eqb (bytes_fault machines list).number 0 bytes_zero) refl
-
-    pub read_few : length list / 16 ≤ 32
-    unfolding early_fault many_fault
-    read_few = go (ltb 32 (row_count (words_of list))) refl (first_zero (bytes_fault machines list) (many_fault (words_of list)) (sym e ∙ z))
-      where
-        go : (t : Bool) → ltb 32 (row_count (words_of list)) ≡ t → (fault t (refusal 3 0 0)).number ≡ 0 → length list / 16 ≤ 32
-        go true p q = absurd (omega arith)
-        go false p q = omega (arith, ltb-false 32 (row_count (words_of list)) p, row_count_lem list)
-
-    pub rows_read : (numbers : List ℕ) → take (4 * (length list / 16)) numbers ≡ words_from list 0 (4 * (length list / 16))
-        → take (4 * (length list / 16)) numbers ≡ words_of list
-    unfolding words_of
-    rows_read numbers r = let n : 4 * (length list / 16) ≡ length list / 4 = omega (arith, read_whole) in r ∙ ap (words_from list 0) n
+  pub read_next : yes ≡ early_fault machines list → (rest : Answer) → first (bytes_fault machines list) rest ≡ rest
+  unfolding early_fault
+  read_next read rest = rw (eq-eqb (bytes_fault machines list).number 0 (first_zero_front (bytes_fault machines list) (many_fault (words_of list)) (sym (same_number read)))) refl

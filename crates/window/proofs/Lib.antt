@@ -1,5 +1,5 @@
+pub mod Refused
 pub mod Early
-pub mod Bytes
-pub mod Plans
-pub mod Rooms
 pub mod Desks
+pub mod Lists
+pub mod Plans

@@ -1,34 +1,28 @@
--- Plan at the window, from the answers of its parts.
-use Prim.Native.Nat.{ℕ, ◌*◌, ◌/◌, ◌≤◌, min}
+-- Plan and Room at the window, from the answers of their parts.
+use Prim.Native.Nat.{ℕ, ◌*◌, ◌/◌, min}
 use native.Mathlib.Omega.{arith}
 use mathlib.Core.Path.{◌≡◌, refl, sym, ◌∙◌, ap}
-use mathlib.Core.Logic.{◌≢◌}
 use mathlib.Core.Bool.{Bool, true, false}
 use mathlib.Core.List.{List, ◌++◌, flatten, append-nil}
 use lib.Dec.{ltb}
-use lib.ListN.{length, take, drop, drop_of_length-le}
-use lib.Seq.{length-take-le}
+use lib.IntN.{ℤ}
+use lib.ListN.{length, drop, drop_of_length-le}
 use borrow.Author.Tests.{lt-ltb, le-ltb, ltb-true, ltb-false, eq-eqb, ne_eqb}
 use Rattle.model.specs.Rule.{plan_rows}
+use Rattle.std.specs.declared.result.Result.TheVariants.{Ok, Err}
 use Rattle.promise.specs.declared.Answer.{Answer}
-use Rattle.promise.specs.Answers.{yes, refusal}
+use Rattle.promise.specs.declared.Refusal.{Refusal}
+use Rattle.promise.specs.Answers.{yes}
 use Rattle.promise.specs.Rows.{row_count}
-use Rattle.promise.specs.Lists.{planned, Holds, answer_of, plan_order, plan_answer, written, plan_buffer, PlanPromise}
-use Rattle.promise.specs.Window.{words_from, words_of, bytes_of, window_answer, window_buffer, pack, Packs, PlanBytesPromise, PlanNumbersPromise}
-use Rattle.promise.proofs.Ladder.{same_number, zero_yes}
-use Rattle.promise.proofs.Table.{refuses, gives_plan}
+use Rattle.promise.specs.Lists.{planned, plan_answer, written, plan_buffer, PlanPromise, room_answer, room_figure, RoomPromise}
+use Rattle.promise.specs.Window.{words_of, bytes_of, bytes_left, window_answer, window_buffer, pack, Packs, PlanBytesPromise, room_word, room_window_answer, room_packed, RoomBytesPromise}
+use Rattle.promise.specs.Refusals.{numbered, as_room_answer}
+use Rattle.promise.proofs.Ladder.{same_number}
 use Rattle.promise.proofs.Sound.{yes_long}
-use Rattle.promise.proofs.Words.{row_count_lem}
 use Rattle.promise.proofs.Theorems.{refusal_writes_nothing, answers_pack, window_writes_the_plan}
-use Rattle.window.specs.Bytes.{early_fault, RowsPromise}
-use Rattle.window.proofs.Early.{whole_packed, refused_early, read_next, rows_read}
-
-module _ (machines : ℕ) (rows lent : List ℕ) (a : Answer) (after : List ℕ) (p : PlanPromise machines rows lent a after) where
-  pub plan_packs : Packs a
-  plan_packs = rw p.answered (answers_pack machines rows (length lent)).0
-
-  pub numbers_promised : (word : ℕ) → word ≡ pack a → PlanNumbersPromise machines rows lent word after
-  numbers_promised word e = record { answered = e ∙ ap pack p.answered; left = p.left }
+use Rattle.window.specs.Words.{early_fault}
+use Rattle.window.proofs.Refused.{refuses}
+use Rattle.window.proofs.Early.{refused_early, read_next}
 
 -- no more cells than the plan fills make no other answer
 fewer_same : (size k : ℕ) → ltb (min size k) k ≡ ltb size k
@@ -43,62 +37,86 @@ unfolding plan_answer
 same_answer machines rows size = rw (fewer_same size (168 * row_count rows)) refl
 
 -- Plan into cells, written as bytes
-module _ (machines : ℕ) (rows lent cells : List ℕ) (long : length cells ≡ min (length lent / 2) (168 * row_count rows)) (a : Answer) (done : List ℕ) (p : PlanPromise machines rows cells a done) where
-  same : a ≡ plan_answer machines rows (length lent / 2)
-  same = p.answered ∙ ap (plan_answer machines rows) long ∙ same_answer machines rows (length lent / 2)
+module _ (machines : ℕ) (rows lent cells done : List ℕ) (long : length cells ≡ min (length lent / 2) (168 * row_count rows)) where
+  same : plan_answer machines rows (length cells) ≡ plan_answer machines rows (length lent / 2)
+  same = ap (plan_answer machines rows) long ∙ same_answer machines rows (length lent / 2)
 
-  pub rows_refused : a.number ≢ 0 → (word : ℕ) → word ≡ pack a → RowsPromise machines rows lent word lent
-  rows_refused h word e = record {
-    answered = e ∙ ap pack same;
-    left = sym (rw (ne_eqb (plan_answer machines rows (length lent / 2)).number 0 (λ z. h (same_number same ∙ z))) refl);
-  }
+  pub rows_refused : (e : Refusal) → PlanPromise machines rows cells (numbered e) done
+      → (numbered e ≡ plan_answer machines rows (length lent / 2)) × (lent ≡ bytes_left (plan_answer machines rows (length lent / 2)) machines rows lent)
+  rows_refused e p =
+      let told : numbered e ≡ plan_answer machines rows (length lent / 2) = p.answered ∙ same in
+      (told, sym (rw (ne_eqb (plan_answer machines rows (length lent / 2)).number 0 (refuses e _ told)) refl))
 
-  module _ (z : a.number ≡ 0) where
-    is_yes : a ≡ yes
-    is_yes =
-        rw p.answered
-        (zero_yes (Holds machines rows) (answer_of machines rows) (refuses machines rows) (plan_order rows (length cells)) (plan_answer machines rows (length cells))
-        (sym (same_number p.answered) ∙ z) (gives_plan machines rows (length cells)))
+  module _ (p : PlanPromise machines rows cells yes done) where
+    none : (plan_answer machines rows (length cells)).number ≡ 0
+    none = sym (same_number p.answered)
 
     -- the plan fills the cells
     full : length cells ≡ 168 * row_count rows
-    full = omega (arith, yes_long machines rows (length cells) (sym (same_number p.answered) ∙ z))
+    full = omega (arith, yes_long machines rows (length cells) none)
 
     done_plan : done ≡ flatten (plan_rows machines (planned machines rows))
     unfolding plan_buffer written
     done_plan =
-        p.left ∙ rw (eq-eqb (plan_answer machines rows (length cells)).number 0 (sym (same_number p.answered) ∙ z), drop_of_length-le cells {i = 168 * row_count rows} (omega (arith, full)))
+        p.left ∙ rw (eq-eqb (plan_answer machines rows (length cells)).number 0 none, drop_of_length-le cells {i = 168 * row_count rows} (omega (arith, full)))
         (append-nil (flatten (plan_rows machines (planned machines rows))))
 
     done_long : 2 * length done ≡ 336 * row_count rows
     done_long = let e : length done ≡ length cells = ap length p.left ∙ (refusal_writes_nothing machines rows cells).1 in omega (arith, full)
 
-    pub rows_planned : (after : List ℕ) → after ≡ bytes_of done ++ drop (2 * length done) lent → RowsPromise machines rows lent 0 after
-    unfolding pack
-    rows_planned after e = record {
-      answered = ap pack (sym is_yes ∙ same);
-      left = e ∙ rw (eq-eqb (plan_answer machines rows (length lent / 2)).number 0 (sym (same_number same) ∙ z), done_long, done_plan) refl;
-    }
+    pub rows_planned : (after : List ℕ) → after ≡ bytes_of done ++ drop (2 * length done) lent
+        → (yes ≡ plan_answer machines rows (length lent / 2)) × (after ≡ bytes_left (plan_answer machines rows (length lent / 2)) machines rows lent)
+    rows_planned after e =
+        let told : yes ≡ plan_answer machines rows (length lent / 2) = p.answered ∙ same in
+        (told, e ∙ rw (sym told, done_long, done_plan) refl)
 
--- a list of bytes
-module _ (machines : ℕ) (list : List ℕ) (early : ℕ) (e : early ≡ (early_fault machines list).number) where
-  pub plan_early : (lent : List ℕ) → early ≢ 0 → PlanBytesPromise machines list lent early lent
+-- Plan on a list of bytes
+module _ (machines : ℕ) (list lent : List ℕ) where
+  pub plan_early : (e : Refusal) → numbered e ≡ early_fault machines list → Packs (numbered e) × PlanBytesPromise machines list lent (pack (numbered e)) lent
   unfolding window_answer plan_answer
-  plan_early lent h = record { answered = whole_packed early ∙ ap pack refused; left = sym ((window_writes_the_plan machines list lent).1 (λ z. h (same_number refused ∙ z))) }
-    where
-      refused : refusal early 0 0 ≡ window_answer machines list (length lent)
-      refused = refused_early machines list early e h _
+  plan_early e h =
+      let told : numbered e ≡ window_answer machines list (length lent) = refused_early machines list e h _ in (
+        rw told (answers_pack machines list (length lent)).2,
+        record { answered = ap pack told; left = sym ((window_writes_the_plan machines list lent).1 (refuses e _ told)) },
+      )
 
-  -- that is read
-  module _ (z : early ≡ 0) (numbers : List ℕ) (r : take (4 * (length list / 16)) numbers ≡ words_from list 0 (4 * (length list / 16))) where
-    pub cells_long : (lent cells : List ℕ) (size : ℕ) → size ≤ length cells → size ≡ min (length lent / 2) (168 * (length list / 16))
-        → length (take size cells) ≡ min (length lent / 2) (168 * row_count (take (4 * (length list / 16)) numbers))
-    cells_long lent cells size h s = rw (rows_read machines list early e z numbers r, row_count_lem list) (length-take-le size cells h ∙ s)
+  module _ (read : yes ≡ early_fault machines list) (rows : List ℕ) (r : rows ≡ words_of list) (a : Answer) (told : a ≡ plan_answer machines rows (length lent / 2)) where
+    window_told : a ≡ window_answer machines list (length lent)
+    unfolding window_answer
+    window_told = told ∙ ap (λ (l : List ℕ). plan_answer machines l (length lent / 2)) r ∙ sym (read_next machines list read _)
 
-    pub plan_read : (lent : List ℕ) (word : ℕ) (after : List ℕ) → RowsPromise machines (take (4 * (length list / 16)) numbers) lent word after
-        → PlanBytesPromise machines list lent word after
-    unfolding window_answer window_buffer
-    plan_read lent word after p = let q = rw (rows_read machines list early e z numbers r) at p in record { answered = q.answered ∙ ap pack (sym next); left = q.left ∙ rw next refl }
-      where
-        next : window_answer machines list (length lent) ≡ plan_answer machines (words_of list) (length lent / 2)
-        next = read_next machines list early e z (plan_answer machines (words_of list) (length lent / 2))
+    pub plan_read : (word : ℕ) (after : List ℕ) → word ≡ pack a → after ≡ bytes_left (plan_answer machines rows (length lent / 2)) machines rows lent
+        → Packs a × PlanBytesPromise machines list lent word after
+    unfolding window_buffer
+    plan_read word after w l = (
+      rw window_told (answers_pack machines list (length lent)).2,
+      record {
+        answered = w ∙ ap pack window_told;
+        left = l ∙ ap (λ (x : Answer). bytes_left x machines rows lent) (sym told ∙ window_told) ∙ ap (λ (l : List ℕ). bytes_left (window_answer machines list (length lent)) machines l lent) r;
+      },
+    )
+
+-- Room on a list of bytes
+module _ (machines : ℕ) (list : List ℕ) (b : ℕ) where
+  room_refused : (e : Refusal) → numbered e ≡ room_window_answer machines list b → Packs (numbered e) × RoomBytesPromise machines list b (pack (numbered e))
+  unfolding room_packed
+  room_refused e told =
+      (rw told (answers_pack machines list b).3, rw (ne_eqb (room_window_answer machines list b).number 0 (refuses e _ told)) (ap pack told))
+
+  pub room_early : (e : Refusal) → numbered e ≡ early_fault machines list → Packs (numbered e) × RoomBytesPromise machines list b (pack (numbered e))
+  unfolding room_window_answer room_answer
+  room_early e h = room_refused e (refused_early machines list e h _)
+
+  module _ (read : yes ≡ early_fault machines list) (rows : List ℕ) (r : rows ≡ words_of list) where
+    room_told : (a : Answer) → a ≡ room_answer machines rows b → a ≡ room_window_answer machines list b
+    unfolding room_window_answer
+    room_told a e = e ∙ ap (λ (l : List ℕ). room_answer machines l b) r ∙ sym (read_next machines list read _)
+
+    pub room_no : (e : Refusal) → RoomPromise machines rows b (as_room_answer (Err e)) → Packs (numbered e) × RoomBytesPromise machines list b (pack (numbered e))
+    room_no e p = room_refused e (room_told (numbered e) p.answered)
+
+    pub room_yes : (z : ℤ) → RoomPromise machines rows b (as_room_answer (Ok z)) → (word : ℕ) → word ≡ room_word z → RoomBytesPromise machines list b (4294967296 * word)
+    unfolding room_packed
+    room_yes z p word w =
+        rw (sym (room_told yes p.answered))
+        (ap (λ (n : ℕ). 4294967296 * n) (w ∙ ap room_word (p.figure ∙ ap (λ (l : List ℕ). room_figure machines l b) r)))

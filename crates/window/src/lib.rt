@@ -1,268 +1,235 @@
 // The host window: the planner and the desk on numbers and lent slices, as bytes where C has bytes. `window_c` exports its calls.
+// A call is two functions: one answers a figure or a refusal, and a refusal leaves each lent buffer as it was; the other makes C's word of that.
 #![tactic(auto)]
 
-ghost use Rattle.std.specs.Prelude.{◌≡◌, cond, ◌++◌, ◌+◌, ◌*◌, ◌/◌, ◌≤◌, ◌<◌, min, eqb, length, take, drop};
-ghost use Rattle.std.specs.Int.Signed.{mag};
+ghost use Rattle.std.specs.Prelude.{◌≡◌, ◌++◌, ◌*◌, ◌/◌, ◌%◌, ◌≤◌, min, length, take, drop, IfOk};
+ghost use Rattle.figures.specs.Jobs.{as_job};
 ghost use Rattle.promise.specs.Rows.{row_count};
-ghost use Rattle.promise.specs.Window.{words_from, bytes_of, pack, Packs, room_word, PlanBytesPromise, PlanNumbersPromise, RoomBytesPromise};
-ghost use Rattle.promise.specs.DeskWindow.{output_fault, OpenBytesPromise, AdmitBytesPromise, WithdrawBytesPromise, LookBytesPromise, RunBytesPromise};
-ghost use Rattle.window.specs.Bytes.{two_set, early_fault, RowsPromise};
+ghost use Rattle.promise.specs.Lists.{plan_answer};
+ghost use Rattle.promise.specs.Window.{words_of, bytes_of, bytes_left, pack, Packs, room_word, PlanBytesPromise, PlanNumbersPromise, RoomBytesPromise};
+ghost use Rattle.promise.specs.DeskWindow.{desk_read, output_fault, OpenBytesPromise, AdmitBytesPromise, WithdrawBytesPromise, LookBytesPromise, RunBytesPromise};
+ghost use Rattle.promise.specs.Refusals.{as_answer, numbered};
+ghost use Rattle.window.specs.Words.{early_fault, word_told, Sendable};
 
+use arrayvec::ArrayVec;
 use figures::Job;
-use promise::Answer;
+use promise::{Answer, Desk, Refusal};
+use record::Record;
 
-// number + 256 × place + 2^32 × amount
-fn packed(a: Answer) -> u64
-    requires { Packs a }
-    ensures { result ≡ pack a }
+// number + 256 × place + 2^32 × amount, which is how C is told
+#[tactic(auto, unfolding(promise::specs::Window::pack))]
+fn packed(refusal: Refusal) -> u64
+    requires { Packs (numbered refusal) }
+    ensures { result ≡ pack (numbered refusal) }
 {
+    let a = Answer::from(refusal);
     a.number as u64 + 256 * (a.place as u64) + 4294967296 * (a.amount as u64)
 }
 
-// A room as 32 bits: itself, or 2^32 less the shortage.
-fn room_word(room: i32) -> u64
-    requires { mag room < 2000000 }
-    ensures { result ≡ room_word room }
+// The word that C gets: a figure in its upper half, or a refusal packed.
+fn word(told: Result<u32, Refusal>) -> u64
+    requires { Sendable told }
+    ensures { result ≡ word_told told }
 {
-    if room < 0 {
-        return 4294967296 - figures::shortage_of(room) as u64;
+    match told {
+        Ok(figure) => 4294967296 * (figure as u64),
+        Err(refusal) => packed(refusal),
     }
-    room as u64
 }
 
-// 1, 2 or 3, before any number is read: there is room for the numbers of 32 rows. Else 0.
-fn early_fault(machines: u32, list: &[u8]) -> u32
-    ensures { result ≡ (early_fault machines list.now).number }
+// The numbers of a list, or 1, 2 or 3 before any is read: there is room for those of 32 rows.
+#[tactic(auto, using(crate::proofs::Early::shape_stops, crate::proofs::Early::shape_passed, crate::proofs::Lists::words_next), unfolding(promise::specs::Window::words_of))]
+fn numbers_in(machines: u32, list: &[u8]) -> Result<ArrayVec<u32, 128>, Refusal>
+    ensures answer { as_answer result ≡ early_fault machines list.now }
+    ensures read { IfOk result (λ numbers. numbers.items ≡ words_of list.now) }
 {
-    if machines < 1 {
-        return 1;
+    rows::shape_fault(machines, list.len(), 16)?;
+    let mut numbers = ArrayVec::new();
+    for i in 0..list.len() / 4 {
+        numbers.push(record::word_at(list, i));
     }
-    if 64 < machines {
-        return 1;
-    }
-    if list.len() % 16 != 0 {
-        return 2;
-    }
-    let many = 32 < list.len() / 16;
-    if many {
-        return 3;
-    }
-    0
+    Ok(numbers)
 }
 
-// The first n list numbers of the bytes.
-fn words(list: &[u8], n: usize) -> [u32; 128]
-    requires { (n ≤ 128) × (4 * n ≤ length list.now) }
-    ensures { take n result ≡ words_from list.now 0 n }
-{
-    let mut all = [0u32; 128];
-    let mut i = n;
-    while 0 < i {
-        i -= 1;
-        all[i] = record::word_at(list, i);
-    }
-    all
-}
-
-// A plan number as two bytes, lowest first.
-fn put_two(plan: &mut [u8], at: usize, v: u16)
-    requires { at + 1 < length plan.old }
-    ensures { plan.new ≡ two_set plan.old at v }
-{
-    plan[at] = (v % 256) as u8;
-    plan[at + 1] = (v / 256) as u8;
-}
-
-// The plan numbers as bytes.
+// The plan numbers as bytes, lowest first.
+#[tactic(auto, using(crate::proofs::Lists::number_step))]
 fn write_bytes(numbers: &[u16], plan: &mut [u8])
     requires { 2 * length numbers.now ≤ length plan.old }
     ensures { plan.new ≡ bytes_of numbers.now ++ drop (2 * length numbers.now) plan.old }
 {
-    let mut i: usize = 0;
-    while i < numbers.len() {
-        put_two(&mut *plan, 2 * i, numbers[i]);
-        i += 1;
+    for (i, number) in numbers.iter().enumerate() {
+        plan[2 * i..2 * i + 2].copy_from_slice(&number.to_le_bytes());
     }
-}
-
-// As many cells as the plan fills are enough, however long the lent plan is.
-fn smaller(a: usize, b: usize) -> usize
-    ensures { result ≡ min a b }
-{
-    if a < b {
-        return a;
-    }
-    b
 }
 
 // Plan on the numbers of a list, into cells that are written as bytes on a yes.
-fn plan_bytes(machines: u32, rows: &[u32], cells: &mut [u16], plan: &mut [u8]) -> u64
+fn plan_rows(machines: u32, rows: &[u32], cells: &mut [u16], plan: &mut [u8]) -> Result<(), Refusal>
     requires { length cells.old ≡ min (length plan.old / 2) (168 * row_count rows.now) }
-    ensures { RowsPromise machines rows.now plan.old result plan.new }
+    ensures answer { as_answer result ≡ plan_answer machines rows.now (length plan.old / 2) }
+    ensures left { plan.new ≡ bytes_left (plan_answer machines rows.now (length plan.old / 2)) machines rows.now plan.old }
 {
-    let planned = planner::plan(machines, rows, &mut *cells);
-    let refused = planned.number != 0;
-    if refused {
-        return packed(planned);
-    }
-    write_bytes(&cells[..], plan);
-    0
+    planner::plan(machines, rows, cells)?;
+    write_bytes(cells, plan);
+    Ok(())
+}
+
+// Plan on bytes. As many cells as the plan fills are enough, however long the lent plan is.
+fn plan_bytes(machines: u32, list: &[u8], plan: &mut [u8]) -> Result<u32, Refusal>
+    ensures sendable { Sendable result }
+    ensures promised { PlanBytesPromise machines list.now plan.old (word_told result) plan.new }
+{
+    let numbers = numbers_in(machines, list)?;
+    let rows = numbers.as_slice();
+    let size = (plan.len() / 2).min(168 * (rows.len() / 4));
+    let mut cells = [0; 5376];
+    plan_rows(machines, rows, &mut cells[..size], plan)?;
+    Ok(0)
 }
 
 // 01's host call: the list and the plan as bytes.
 pub fn vezhdanur_plan(machines: u32, list: &[u8], plan: &mut [u8]) -> u64
     ensures { PlanBytesPromise machines list.now plan.old result plan.new }
 {
-    let fault = early_fault(machines, list);
-    if fault != 0 {
-        return fault as u64;
-    }
-    let n = list.len() / 16;
-    let numbers = words(list, 4 * n);
-    let size = smaller(plan.len() / 2, 168 * n);
-    let mut cells = [0u16; 5376];
-    plan_bytes(machines, &numbers[..4 * n], &mut cells[..size], plan)
+    word(plan_bytes(machines, list, plan))
 }
 
 // The same on numbers.
 pub fn vezhdanur_plan_numbers(machines: u32, rows: &[u32], plan: &mut [u16]) -> u64
     ensures { PlanNumbersPromise machines rows.now plan.old result plan.new }
 {
-    packed(planner::plan(machines, rows, plan))
+    word(planner::plan(machines, rows, plan).map(|()| 0))
+}
+
+// A room as 32 bits: itself, or 2^32 less the shortage.
+fn room_word(room: i32) -> u32
+    ensures { result ≡ room_word room }
+{
+    room.cast_unsigned()
+}
+
+fn room_bytes(machines: u32, list: &[u8], boundary: u32) -> Result<u32, Refusal>
+    ensures sendable { Sendable result }
+    ensures promised { RoomBytesPromise machines list.now boundary (word_told result) }
+{
+    let numbers = numbers_in(machines, list)?;
+    let room = planner::room(machines, numbers.as_slice(), boundary)?;
+    Ok(room_word(room))
 }
 
 // Room: a refusal packed, or the room in the upper half.
 pub fn vezhdanur_room(machines: u32, list: &[u8], boundary: u32) -> u64
     ensures { RoomBytesPromise machines list.now boundary result }
 {
-    let fault = early_fault(machines, list);
-    if fault != 0 {
-        return fault as u64;
-    }
-    let n = list.len() / 16;
-    let numbers = words(list, 4 * n);
-    let told = planner::room(machines, &numbers[..4 * n], boundary);
-    let answer = told.answer;
-    if answer.number != 0 {
-        return packed(answer);
-    }
-    4294967296 * room_word(told.room)
+    word(room_bytes(machines, list, boundary))
+}
+
+fn open_bytes(machines: u32, bytes: &mut [u8]) -> Result<u32, Refusal>
+    ensures sendable { Sendable result }
+    ensures promised { OpenBytesPromise machines bytes.old (word_told result) bytes.new }
+{
+    let opened = desk::open(machines);
+    opened.answer?;
+    let record = bytes.as_mut_array().ok_or(Refusal::ShortBuffer)?;
+    record::write_desk(&opened.desk, record);
+    Ok(0)
 }
 
 // Open: an empty desk over the bytes of one record.
 pub fn vezhdanur_open(machines: u32, bytes: &mut [u8]) -> u64
     ensures { OpenBytesPromise machines bytes.old result bytes.new }
 {
-    let opened = desk::open(machines);
-    let count = opened.answer;
-    let refused = count.number != 0;
-    if refused {
-        return packed(count);
-    }
-    let whole = bytes.len() == 776;
-    if whole {
-        let empty = opened.desk;
-        record::write_desk(empty, bytes);
-        return 0;
-    }
-    6
+    word(open_bytes(machines, bytes))
+}
+
+fn admit_bytes(bytes: &mut [u8], job: Job) -> Result<u32, Refusal>
+    ensures sendable { Sendable result }
+    ensures promised { AdmitBytesPromise bytes.old (as_job job) (word_told result) bytes.new }
+{
+    let record = bytes.as_mut_array().ok_or(Refusal::NotSound)?;
+    let admitted = desk::admit(record::read_desk(record), job);
+    admitted.answer?;
+    record::write_desk(&admitted.desk, record);
+    Ok(0)
 }
 
 // Admit: the record with the job in its seat, or as it was.
 pub fn vezhdanur_admit(bytes: &mut [u8], number: u32, work: u32, deadline: u32, bound: u32) -> u64
     ensures { AdmitBytesPromise bytes.old (record { number = number; work = work; deadline = deadline; bound = bound }) result bytes.new }
 {
-    if bytes.len() != 776 {
-        return 12;
-    }
     let job = Job {
         number,
         work,
         deadline,
         bound,
     };
-    let held = record::read_desk(&bytes[..]);
-    let admitted = desk::admit(held, job);
-    let answer = admitted.answer;
-    let next = admitted.desk;
-    record::leave_desk(answer, next, bytes);
-    packed(answer)
+    word(admit_bytes(bytes, job))
 }
 
-// A refusal packed, or a remaining work in the upper half.
-fn withdrawn_word(answer: Answer, left: u32) -> u64
-    requires { Packs answer }
-    ensures { result ≡ cond (eqb answer.number 0) (4294967296 * left) (pack answer) }
+fn withdraw_bytes(bytes: &mut [u8], number: u32) -> Result<u32, Refusal>
+    ensures sendable { Sendable result }
+    ensures promised { WithdrawBytesPromise bytes.old number (word_told result) bytes.new }
 {
-    if answer.number != 0 {
-        return packed(answer);
-    }
-    4294967296 * (left as u64)
+    let record = bytes.as_mut_array().ok_or(Refusal::NotSound)?;
+    let withdrawn = desk::withdraw(record::read_desk(record), number);
+    let left = withdrawn.answer?;
+    record::write_desk(&withdrawn.desk, record);
+    Ok(left)
 }
 
 // Withdraw: the record without the job, and its remaining work.
 pub fn vezhdanur_withdraw(bytes: &mut [u8], number: u32) -> u64
     ensures { WithdrawBytesPromise bytes.old number result bytes.new }
 {
-    if bytes.len() != 776 {
-        return 12;
-    }
-    let held = record::read_desk(&bytes[..]);
-    let withdrawn = desk::withdraw(held, number);
-    let answer = withdrawn.answer;
-    let next = withdrawn.desk;
-    record::leave_desk(answer, next, bytes);
-    withdrawn_word(answer, withdrawn.left)
+    word(withdraw_bytes(bytes, number))
 }
 
-// 12, then 6 for an output buffer of fewer bytes than are written. Else 0.
-fn output_fault(bytes: &[u8], lent: usize, written: usize) -> u32
-    ensures { result ≡ (output_fault bytes.now lent written).number }
+// 12, then 6 for an output buffer of fewer bytes than are written; else the desk.
+#[tactic(auto, using(crate::proofs::Desks::output_unsound, crate::proofs::Desks::output_short, crate::proofs::Desks::output_clear))]
+fn sound_desk(bytes: &Record, lent: usize, written: usize) -> Result<Desk, Refusal>
+    ensures answer { as_answer result ≡ output_fault bytes.now lent written }
+    ensures read { IfOk result (λ held. (written ≤ lent) × (held ≡ desk_read bytes.now)) }
 {
-    if bytes.len() != 776 {
-        return 12;
+    let held = record::read_desk(bytes);
+    desk::sound_fault(&held)?;
+    if lent < written {
+        return Err(Refusal::ShortBuffer);
     }
-    let unsound = desk::sound_fault(record::read_desk(bytes));
-    let twelve = unsound.number;
-    let refused = twelve != 0;
-    if refused {
-        return twelve;
-    }
-    let short = lent < written;
-    if short {
-        return 6;
-    }
-    0
+    Ok(held)
+}
+
+fn look_bytes(bytes: &[u8], number: u32, figures: &mut [u8]) -> Result<u32, Refusal>
+    ensures sendable { Sendable result }
+    ensures promised { LookBytesPromise bytes.now number figures.old (word_told result) bytes.now figures.new }
+{
+    let record = bytes.as_array().ok_or(Refusal::NotSound)?;
+    let held = sound_desk(record, figures.len(), 16)?;
+    let told = desk::look(held, number).answer?;
+    record::write_figures(&told, figures);
+    Ok(0)
 }
 
 // Look: the four figures of a job.
 pub fn vezhdanur_look(bytes: &[u8], number: u32, figures: &mut [u8]) -> u64
     ensures { LookBytesPromise bytes.entry.now number figures.old result bytes.exit.now figures.new }
 {
-    let fault = output_fault(bytes, figures.len(), 16);
-    if fault != 0 {
-        return fault as u64;
-    }
-    let looked = desk::look(record::read_desk(bytes), number);
-    let answer = looked.answer;
-    record::leave_figures(answer, looked, figures);
-    packed(answer)
+    word(look_bytes(bytes, number, figures))
+}
+
+fn run_bytes(bytes: &mut [u8], given: &mut [u8]) -> Result<u32, Refusal>
+    ensures sendable { Sendable result }
+    ensures promised { RunBytesPromise bytes.old given.old (word_told result) bytes.new given.new }
+{
+    let record = bytes.as_mut_array().ok_or(Refusal::NotSound)?;
+    let ran = desk::run(sound_desk(record, given.len(), 256)?);
+    let pairs = ran.answer?;
+    record::write_pairs(&pairs, given);
+    record::write_desk(&ran.desk, record);
+    Ok(0)
 }
 
 // Run: slot 1 of the plan given out, and the record after it.
 pub fn vezhdanur_run(bytes: &mut [u8], given: &mut [u8]) -> u64
     ensures { RunBytesPromise bytes.old given.old result bytes.new given.new }
 {
-    let fault = output_fault(&bytes[..], given.len(), 256);
-    if fault != 0 {
-        return fault as u64;
-    }
-    let held = record::read_desk(&bytes[..]);
-    let ran = desk::run(held);
-    let answer = ran.answer;
-    let pairs = ran.given;
-    record::leave_pairs(answer, pairs, given);
-    let next = ran.desk;
-    record::leave_desk(answer, next, bytes);
-    packed(answer)
+    word(run_bytes(bytes, given))
 }

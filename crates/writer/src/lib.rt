@@ -1,142 +1,120 @@
-// Writers: numbers, lines, a refusal, a run line, each put at an index of lent bytes.
+// Writers: numbers, lines, a refusal, a run line, each put at the end of a page.
 #![tactic(auto)]
 
-ghost use Rattle.std.specs.Prelude.{◌≡◌, false, ◌||◌, [], ◌∷◌, ◌++◌, ◌+◌, ◌≤◌, ◌<◌, ltb, length, set};
+ghost use Rattle.std.specs.Prelude.{◌≡◌, false, [], ◌∷◌, ◌++◌, ◌+◌, ◌≤◌, ◌<◌, length};
+ghost use Rattle.arrayvec.specs.ArrayVec.{array_vec_len};
 ghost use Rattle.promise.specs.Texts.{decimal, newline};
 ghost use Rattle.promise.specs.PlanText.{refusal_text, pair_text, run_line};
-ghost use Rattle.writer.specs.Writing.{Writes, line, digit_at, slot_text, slots_text};
+ghost use Rattle.promise.specs.Refusals.{numbered};
+ghost use Rattle.writer.specs.Writing.{line, digit_at, slot_text, slots_text};
 
-use promise::Answer;
+use arrayvec::ArrayVec;
+use promise::{Answer, Refusal};
 
-fn put(out: &mut [u8], at: usize, byte: u8)
-    requires { at < length out.old }
-    ensures { out.new ≡ set out.old at byte }
+// What is printed so far, of at most the size of a text. That another text fits is the caller's to know: a writer that
+// tested it could fail.
+pub type Page = ArrayVec<u8, 40960>;
+
+pub fn write(page: &mut Page, text: &[u8])
+    requires { length page.old.items + length text.now ≤ 40960 }
+    ensures { page.new.items ≡ page.old.items ++ text.now }
 {
-    out[at] = byte;
-}
-
-// Each writer puts its text at index `at` and answers the index after it.
-pub fn write(out: &mut [u8], at: usize, text: &[u8]) -> usize
-    requires { at + length text.now ≤ length out.old }
-    ensures { Writes text.now at out.old result out.new }
-{
-    let mut i: usize = 0;
-    while i < text.len() {
-        put(&mut *out, at + i, text[i]);
-        i += 1;
-    }
-    at + i
+    page.try_extend_from_slice(text).unwrap();
 }
 
 // The digit of n at a power of ten; nothing if n does not reach it.
 #[tactic(auto, unfolding(crate::specs::Writing::digit_at))]
-fn write_digit(out: &mut [u8], at: usize, n: u32, power: u32) -> usize
-    requires { (1 ≤ power) × (at + length (digit_at n power) ≤ length out.old) }
-    ensures { Writes (digit_at n power) at out.old result out.new }
+fn write_digit(page: &mut Page, n: u32, power: u32)
+    requires power { 1 ≤ power }
+    requires fits { length page.old.items + length (digit_at n power) ≤ 40960 }
+    ensures { page.new.items ≡ page.old.items ++ digit_at n power }
 {
-    if n < power {
-        return at;
+    if power <= n {
+        page.push(b'0' + (n / power % 10) as u8);
     }
-    put(&mut *out, at, (48 + n / power % 10) as u8);
-    at + 1
 }
 
-fn write_number(out: &mut [u8], at: usize, n: u32) -> usize
-    requires { at + length (decimal n) ≤ length out.old }
-    ensures { Writes (decimal n) at out.old result out.new }
+// Digit by digit, since `decimal` has seven at most, where `Display` has all.
+#[tactic(auto, using(crate::proofs::Laws::number_laws))]
+fn write_number(page: &mut Page, n: u32)
+    requires { length page.old.items + length (decimal n) ≤ 40960 }
+    ensures { page.new.items ≡ page.old.items ++ decimal n }
 {
-    let mut k: u32 = 6;
-    let mut power: u32 = 1000000;
-    let mut end = at;
-    while 0 < k {
-        end = write_digit(&mut *out, end, n, power);
-        power /= 10;
-        k -= 1;
+    for power in [1_000_000, 100_000, 10_000, 1_000, 100, 10] {
+        write_digit(page, n, power);
     }
-    put(&mut *out, end, (48 + n % 10) as u8);
-    end + 1
+    page.push(b'0' + (n % 10) as u8);
 }
 
 // A line: its key and a number.
-pub fn write_line(out: &mut [u8], at: usize, key: &[u8], n: u32) -> usize
-    requires { at + length (line key.now n) ≤ length out.old }
-    ensures { Writes (line key.now n) at out.old result out.new }
+pub fn write_line(page: &mut Page, key: &[u8], n: u32)
+    requires { length page.old.items + length (line key.now n) ≤ 40960 }
+    ensures { page.new.items ≡ page.old.items ++ line key.now n }
 {
-    let named = write(&mut *out, at, key);
-    let told = write_number(&mut *out, named, n);
-    write(&mut *out, told, b"\n")
+    write(page, key);
+    write_number(page, n);
+    write(page, b"\n");
 }
 
 #[tactic(auto, unfolding(promise::specs::PlanText::refusal_text))]
-pub fn write_refusal(out: &mut [u8], at: usize, answer: Answer) -> usize
-    requires { at + length (refusal_text answer) ≤ length out.old }
-    ensures { Writes (refusal_text answer) at out.old result out.new }
+pub fn write_refusal(page: &mut Page, refusal: Refusal)
+    requires { length page.old.items + length (refusal_text (numbered refusal)) ≤ 40960 }
+    ensures { page.new.items ≡ page.old.items ++ refusal_text (numbered refusal) }
 {
-    let result = write(&mut *out, at, b"result=refused\n");
-    let code = write_line(&mut *out, result, b"code=", answer.number);
-    let place = write_line(&mut *out, code, b"at=", answer.place);
-    write_line(&mut *out, place, b"amount=", answer.amount)
+    let answer = Answer::from(refusal);
+    write(page, b"result=refused\n");
+    write_line(page, b"code=", answer.number);
+    write_line(page, b"at=", answer.place);
+    write_line(page, b"amount=", answer.amount);
 }
 
 #[tactic(auto, unfolding(promise::specs::PlanText::pair_text))]
-fn write_pair(out: &mut [u8], at: usize, t: u32, machines: u32) -> usize
-    requires { at + length (pair_text t machines) ≤ length out.old }
-    ensures { Writes (pair_text t machines) at out.old result out.new }
+fn write_pair(page: &mut Page, slot: u32, machines: u32)
+    requires { length page.old.items + length (pair_text slot machines) ≤ 40960 }
+    ensures { page.new.items ≡ page.old.items ++ pair_text slot machines }
 {
-    let slot = write_number(&mut *out, at, t);
-    let colon = write(&mut *out, slot, b":");
-    write_number(&mut *out, colon, machines)
+    write_number(page, slot);
+    write(page, b":");
+    write_number(page, machines);
 }
 
-// One slot of a run line; `some`: a pair stands before it.
+// One slot of a run line, with a comma if a pair stands before it; nothing for a slot without machines.
 #[tactic(auto, unfolding(crate::specs::Writing::slot_text))]
-fn write_slot(out: &mut [u8], at: usize, some: bool, t: u32, machines: u32) -> usize
-    requires { at + length (slot_text some t machines) ≤ length out.old }
-    ensures { Writes (slot_text some t machines) at out.old result out.new }
+fn write_slot(page: &mut Page, comma: bool, slot: u32, machines: u32)
+    requires { length page.old.items + length (slot_text comma slot machines) ≤ 40960 }
+    ensures { page.new.items ≡ page.old.items ++ slot_text comma slot machines }
 {
     if machines == 0 {
-        return at;
+        return;
     }
-    if some {
-        let comma = write(&mut *out, at, b",");
-        return write_pair(&mut *out, comma, t, machines);
+    if comma {
+        write(page, b",");
     }
-    write_pair(&mut *out, at, t, machines)
-}
-
-// A pair stands before the next slot.
-fn any_pair(some: bool, machines: u32) -> bool
-    ensures { result ≡ some || ltb 0 machines }
-{
-    if 0 < machines {
-        return true;
-    }
-    some
+    write_pair(page, slot, machines);
 }
 
 // The pairs of a run line, from the machines in slots 1, 2, .. on.
-fn write_slots(out: &mut [u8], at: usize, machines: &[u16]) -> usize
-    requires { (at + length (slots_text false 1 machines.now) ≤ length out.old) × (length machines.now ≤ 168) }
-    ensures { Writes (slots_text false 1 machines.now) at out.old result out.new }
+#[tactic(auto, using(crate::proofs::Laws::slot_laws))]
+fn write_slots(page: &mut Page, machines: &[u16])
+    requires fits { length page.old.items + length (slots_text false 1 machines.now) ≤ 40960 }
+    requires slots { length machines.now ≤ 168 }
+    ensures { page.new.items ≡ page.old.items ++ slots_text false 1 machines.now }
 {
-    let mut end = at;
-    let mut some = false;
-    let mut i: usize = 0;
-    while i < machines.len() {
-        let m = machines[i] as u32;
-        end = write_slot(&mut *out, end, some, i as u32 + 1, m);
-        some = any_pair(some, m);
-        i += 1;
+    let mut comma = false;
+    for (i, &m) in machines.iter().enumerate() {
+        write_slot(page, comma, i as u32 + 1, u32::from(m));
+        comma |= 0 < m;
     }
-    end
 }
 
 // The run line, and its newline, of a job whose machines in slots 1, 2, .. are these.
-pub fn write_run(out: &mut [u8], at: usize, machines: &[u16]) -> usize
-    requires { (at + length (run_line machines.now ++ (newline ∷ [])) ≤ length out.old) × (length machines.now ≤ 168) }
-    ensures { Writes (run_line machines.now ++ (newline ∷ [])) at out.old result out.new }
+#[tactic(auto, using(crate::proofs::Laws::run_laws))]
+pub fn write_run(page: &mut Page, machines: &[u16])
+    requires fits { length page.old.items + length (run_line machines.now ++ (newline ∷ [])) ≤ 40960 }
+    requires slots { length machines.now ≤ 168 }
+    ensures { page.new.items ≡ page.old.items ++ (run_line machines.now ++ (newline ∷ [])) }
 {
-    let named = write(&mut *out, at, b"run=");
-    let told = write_slots(&mut *out, named, machines);
-    write(&mut *out, told, b"\n")
+    write(page, b"run=");
+    write_slots(page, machines);
+    write(page, b"\n");
 }

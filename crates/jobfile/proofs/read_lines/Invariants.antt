@@ -1,10 +1,15 @@
-use Rattle.std.proofs.Common.{length, ◌+◌, ◌-◌, ◌≤◌}
-use Rattle.jobfile.proofs.Reading.{Reads}
+use Rattle.std.proofs.Common.{length, ◌+◌, ◌≡◌, ◌≤◌}
+use Rattle.promise.specs.JobFile.{file_says, reading_said}
+use Rattle.jobfile.proofs.Reading.{reads_on}
 use Rattle.jobfile.proofs.read_lines.Given as goal
 
--- each line has at least one byte, so neither the line nor the count of numbers passes the index by more than the first line
-abbrev pub invariant-loop-at : goal.invariant-loop-at
-invariant-loop-at l = (l.at ≤ length l.bytes) × (l.line ≤ l.at + 1) × (l.kept.count ≤ l.at) × Reads l.bytes l.kept l.kind l.line l.at
+-- each line takes a byte at least, so neither the line nor the count of numbers passes the number of bytes by more than the first line
+abbrev pub invariant-loop-text : goal.invariant-loop-text
+invariant-loop-text l = record {
+  line_fits : l.line + length l.rest ≤ 4097;
+  count_fits : l.kept.count + length l.rest ≤ 4096;
+  so_far : reading_said (file_says l.bytes) ≡ reads_on l.kept l.kind l.line l.rest;
+}
 
-abbrev pub decreases-loop-at : goal.decreases-loop-at
-decreases-loop-at l = length l.bytes - l.at
+abbrev pub decreases-loop-text : goal.decreases-loop-text
+decreases-loop-text l = length l.rest

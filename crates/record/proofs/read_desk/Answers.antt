@@ -1,20 +1,11 @@
-use Rattle.std.proofs.Common.{arith, ◌≡◌, ◌-◌, suc, ◌∙◌, length-set}
-use Rattle.record.proofs.Laws.{read_step, read_end}
+use Rattle.std.proofs.Common.{rules}
+use Rattle.promise.specs.DeskWindow.{desk_read}
+use Rattle.record.proofs.Seats.{seats_read}
 use Rattle.record.proofs.read_desk.Goals as goal
 
-pub loop-i-preserved : goal.loop-i-preserved
-loop-i-preserved c =
-    let l = c.loop-i in
-    let v = c.loop-i.invariant in
-    let e : suc (c.loop-i.i - 1) ≡ c.loop-i.i = omega arith in (
-      omega arith,
-      length-set l.desk.seats (l.i - 1) _ ∙ v.1,
-      v.2,
-      v.3,
-      read_step c.args.bytes.now (l.i - 1) l.desk.seats c.seat_at-h.result (omega arith) v.1 c.seat_at-h.ensures (rw e v.4),
-    )
-
 pub returns : goal.returns
+unfolding desk_read
 returns c =
-    let v = c.loop-i.invariant in
-    read_end c.args.bytes.now c.loop-i.desk c.loop-i.i (omega arith) v.2 v.3 v.4
+    let items = c.from_fn.ensures.items in
+    let seats = seats_read _ _ c.args.bytes.now (λ i h q k. search rules) c.from_fn.result items.long items.each in
+    λ t. record { machines = c.word_at.ensures t; clock = c.word_at-2.ensures t; seats = seats t }

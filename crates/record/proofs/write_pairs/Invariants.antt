@@ -1,12 +1,8 @@
-use Rattle.std.proofs.Common.{◌-◌, ◌≡◌, ◌≤◌, [], length}
-use Rattle.promise.specs.DeskWindow.{pair_numbers}
-use Rattle.record.proofs.Laws.{rows_over}
+use Rattle.std.proofs.Common.{◌≡◌, take}
+use mathlib.Core.List.{map, flatten}
+use Rattle.promise.specs.DeskWindow.{pair_numbers, sent_over}
 use Rattle.record.proofs.write_pairs.Given as goal
 
 -- the first i pairs are written
 abbrev pub invariant-loop-i : goal.invariant-loop-i
-invariant-loop-i l =
-    (l.i ≤ 32) × (length l.given ≡ 32) × (length l.out ≡ length l.initial.out) × (l.out ≡ rows_over pair_numbers [] l.given l.initial.out l.i)
-
-abbrev pub decreases-loop-i : goal.decreases-loop-i
-decreases-loop-i l = 32 - l.i
+invariant-loop-i l = l.out ≡ sent_over (flatten (map pair_numbers (take l.i l.given))) l.initial.out

@@ -1,18 +1,12 @@
-use Rattle.std.proofs.Common.{◌≡◌, ◌-◌, suc, sym, ◌∙◌, ap, arith}
-use Rattle.promise.specs.Rows.{seen_before}
-use Rattle.rows.proofs.Laws.{seen_here, seen_further}
+use Rattle.std.proofs.Common.{◌*◌, eqb, get_or, ◌∙◌, rules, tests, arith}
+use Rattle.std.proofs.lemmas.Iterator.{YieldsList-from_range}
+use Rattle.std.proofs.lemmas.Iterator.Search.{any_from_yields_List}
+use Rattle.rows.proofs.Rows.{seen_any}
 use Rattle.rows.proofs.seen.Goals as goal
 
-pub returns-then-rows-k : goal.returns-then-rows-k
-returns-then-rows-k c =
+pub returns : goal.returns
+returns c =
     let a = c.args in
-    let e : suc (c.loop-k.k - 1) ≡ c.loop-k.k = omega arith in
-    seen_here a.rows.now a.number (c.loop-k.k - 1) c.if-rows-k.true ∙ ap (seen_before a.rows.now a.number) e ∙ sym c.loop-k.invariant.1
-
-pub loop-k-preserved : goal.loop-k-preserved
-loop-k-preserved c =
-    let a = c.args in
-    let e : c.loop-k.k ≡ suc (c.loop-k.k - 1) = omega arith in (
-      omega arith,
-      c.loop-k.invariant.1 ∙ ap (seen_before a.rows.now a.number) e ∙ seen_further a.rows.now a.number (c.loop-k.k - 1) c.if-rows-k.false,
-    )
+    any_from_yields_List (λ k. eqb (get_or a.rows.now (4 * k) 0) a.number) _ _ _ c.any.ensures.ran (YieldsList-from_range 0 a.i a.i (cc) (omega arith))
+    (λ x b q k. search (rules, tests))
+    ∙ seen_any a.rows.now a.number a.i

@@ -1,17 +1,13 @@
-use Rattle.std.proofs.Common.{◌∙◌, ap}
-use Rattle.model.specs.Rule.{hand_out, fill}
-use Rattle.model.proofs.Shares.{numbers_clear}
-use Rattle.rule.specs.Shares.{shares_of}
-use Rattle.rule.proofs.Laws.{clear_shares}
+use Rattle.std.proofs.Common.{arith, ◌∙◌}
+use Rattle.rule.proofs.Laws.{hand_ready, hand_one, hand_apart}
 use Rattle.rule.proofs.fill_slot.Goals as goal
 
-pub hand_out-requires : goal.hand_out-requires
-hand_out-requires c =
-    let a = c.args in
-    (c.requires.0, rw (clear_shares a.n a.table c.clear-fresh.result c.clear-fresh.ensures, numbers_clear (shares_of a.n a.table)) c.requires.1)
+pub give-requires : goal.give-requires
+give-requires c = hand_ready _ _ _ c.in-Some.ensures _
 
-pub returns : goal.returns
-unfolding fill
-returns c =
-    let a = c.args in
-    c.hand_out.ensures ∙ ap (hand_out a.c a.t) (clear_shares a.n a.table c.clear-fresh.result c.clear-fresh.ensures)
+pub loop-preserved : goal.loop-preserved
+loop-preserved c =
+    let v = c.loop.invariant in record {
+      same = v.same ∙ hand_one _ _ _ c.in-Some.ensures _ _ c.give.ensures v.apart c.args.machines c.loop.counter (omega arith);
+      apart = hand_apart _ _ _ c.in-Some.ensures _ _ c.give.ensures v.apart;
+    }

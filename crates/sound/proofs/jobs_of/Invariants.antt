@@ -1,9 +1,11 @@
-use Rattle.std.proofs.Common.{◌≡◌, ◌≤◌, length}
-use Rattle.sound.proofs.Laws.{Loaded}
+use Rattle.std.proofs.Common.{◌≡◌, take}
+use Rattle.arrayvec.specs.ArrayVec.{array_vec_len}
+use Rattle.figures.specs.Jobs.{as_jobs}
+use Rattle.promise.specs.Desk.{to_plan}
 use Rattle.sound.proofs.jobs_of.Given as goal
 
-abbrev pub invariant-loop-i : goal.invariant-loop-i
-invariant-loop-i l = (l.i ≤ l.n) × (length l.list.jobs ≡ 32) × Loaded l.desk.machines l.desk.clock l.n l.desk.seats l.i l.list.jobs
-
-abbrev pub decreases-loop-i : goal.decreases-loop-i
-decreases-loop-i l = l.i
+abbrev pub invariant-loop-h : goal.invariant-loop-h
+invariant-loop-h l = record {
+  counted : array_vec_len l.jobs ≡ l.h-index;
+  so_far : as_jobs l.jobs.items ≡ to_plan l.machines l.clock (take l.h-index l.held);
+}

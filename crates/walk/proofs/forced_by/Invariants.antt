@@ -1,10 +1,7 @@
-use Rattle.std.proofs.Common.{◌≡◌, ◌≤◌, drop}
+use Rattle.std.proofs.Common.{◌≡◌, ◌≤◌, ◌*◌, take}
 use Rattle.model.specs.Jobs.{forced}
-use Rattle.walk.specs.Walk.{as_jobs}
+use Rattle.figures.specs.Jobs.{as_jobs}
 use Rattle.walk.proofs.forced_by.Given as goal
 
-abbrev pub invariant-loop-i : goal.invariant-loop-i
-invariant-loop-i l = (l.i ≤ l.n) × (l.sum ≡ forced (drop l.i (as_jobs l.n l.list)) l.b)
-
-abbrev pub decreases-loop-i : goal.decreases-loop-i
-decreases-loop-i l = l.i
+abbrev pub invariant-loop-job : goal.invariant-loop-job
+invariant-loop-job l = record { so_far : l.sum ≡ forced (as_jobs (take l.job-index l.jobs.items)) l.b; within : l.sum ≤ 60000 * l.job-index }

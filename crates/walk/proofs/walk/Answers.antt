@@ -1,75 +1,51 @@
-use Rattle.std.proofs.Common.{◌≡◌, ◌<◌, sym, ◌∙◌, arith}
-use Rattle.std.specs.Int.Signed.{mag}
-use Rattle.model.specs.Jobs.{room}
-use Rattle.figures.proofs.Signed.{back}
-use Rattle.walk.specs.Walk.{as_jobs}
-use Rattle.walk.proofs.Laws.{capacity_small, forced_all_small, room_same, room_small, walk_start, walk_short, walk_end, walk_on, next_above}
+use Rattle.std.proofs.Common.{sym, arith}
+use Rattle.figures.specs.Jobs.{as_jobs}
+use Rattle.walk.proofs.Room.{IsRoom, capacity_fits, is_room}
+use Rattle.walk.proofs.Steps.{walk_start, walk_short, walk_end, walk_on, next_nearest, next_in_week}
 use Rattle.walk.proofs.walk.Goals as goal
 use Rattle.walk.proofs.walk.Goals.{After-room_of-room}
 
--- the room of this turn is the model's, and small enough to be read back as it was written
-same : (c : After-room_of-room) → c.room_of-room.result ≡ room c.args.machines (as_jobs c.args.n c.args.list) c.loop-list.b
-same c =
-    let a = c.args in
-    let p = c.requires in
-    room_same a.n a.list a.machines c.loop-list.b p.2 p.0 p.1 c.loop-list.invariant.0 c.forced_by.result c.room_of-room.result
-    c.forced_by.ensures c.room_of-room.ensures
+room_here : (c : After-room_of-room) → IsRoom c.args.machines (as_jobs c.args.jobs.now.items) c.loop-room.b c.room_of-room.result
+room_here c =
+    let q = c.requires in
+    is_room c.args.jobs.now.items c.args.machines c.loop-room.b q.machines c.loop-room.invariant.within _ _ c.forced_by.ensures.value c.forced_by.ensures.small
+    c.room_of-room.ensures
 
-small : (c : After-room_of-room) → mag c.room_of-room.result < 2000000
-small c =
-    let a = c.args in
-    let p = c.requires in
-    room_small a.n a.list a.machines c.loop-list.b p.2 p.0 p.1 c.loop-list.invariant.0 c.forced_by.result c.room_of-room.result
-    c.forced_by.ensures c.room_of-room.ensures
-
-pub loop-list-init : goal.loop-list-init
-loop-list-init c = (omega arith, walk_start (as_jobs c.args.n c.args.list) c.args.machines)
+pub loop-room-init : goal.loop-room-init
+loop-room-init c = record { within = omega arith; from_here = walk_start (as_jobs c.args.jobs.now.items) c.args.machines }
 
 pub room_of-room-requires : goal.room_of-room-requires
-room_of-room-requires c =
-    let a = c.args in
-    let p = c.requires in
-    let b = c.loop-list.b in (
-      capacity_small a.n a.list a.machines b p.2 p.0 p.1 c.loop-list.invariant.0,
-      rw c.forced_by.ensures (forced_all_small a.n a.list a.machines b p.2 p.0 p.1 c.loop-list.invariant.0),
-    )
-
-pub shortage_of-requires : goal.shortage_of-requires
-shortage_of-requires c =
-    let r = (goal.at.shortage_of-requires c).After-room_of-room in
-    rw (back c.room_of-room.result (omega (arith, small r))) (small r)
+room_of-room-requires c = (capacity_fits c.args.machines c.loop-room.b c.requires.machines c.loop-room.invariant.within, c.forced_by.ensures.small)
 
 pub returns-in_default : goal.returns-in_default
 returns-in_default c =
-    let r = (goal.at.returns-in_default c).After-room_of-room in
-    let z = c.room_of-room.result in
-    let read = back z (omega (arith, small r)) in
+    let here = room_here (goal.at.returns-in_default c).After-room_of-room in
+    let l = c.loop-room in
     sym
-    (walk_end (as_jobs c.args.n c.args.list) c.args.machines c.loop-list.b c.loop-list.invariant.1 z (same r)
-    (rw read at c.if-room-lt0.false) (sym c.next_boundary.ensures ∙ c.in_default.is))
+    (walk_end (as_jobs c.args.jobs.now.items) c.args.machines l.b l.invariant.from_here _ here.same (rw here.read at c.if-room-lt0.false)
+    (next_nearest l.b c.args.jobs.now.items _ c.in_default.ensures))
 
-pub loop-list-smaller : goal.loop-list-smaller
-loop-list-smaller c =
-    let k = next_above (as_jobs c.args.n c.args.list) c.loop-list.b _ (sym c.next_boundary.ensures ∙ c.in-At.is) c.requires.2 in
-    omega (arith, k.0, k.1)
+pub loop-room-smaller : goal.loop-room-smaller
+loop-room-smaller c =
+    let next = next_nearest c.loop-room.b c.args.jobs.now.items _ c.in-Some.ensures in
+    omega (arith, next.0, next_in_week (as_jobs c.args.jobs.now.items) _ _ next c.requires.small)
 
-pub loop-list-preserved : goal.loop-list-preserved
-loop-list-preserved c =
-    let r = (goal.at.loop-list-preserved c).After-room_of-room in
-    let jobs = as_jobs c.args.n c.args.list in
-    let z = c.room_of-room.result in
-    let read = back z (omega (arith, small r)) in
-    let next = sym c.next_boundary.ensures ∙ c.in-At.is in (
-      (next_above jobs c.loop-list.b _ next c.requires.2).1,
-      walk_on jobs c.args.machines c.loop-list.b c.loop-list.invariant.1 z (same r) (rw read at c.if-room-lt0.false) _ next,
-    )
+pub loop-room-preserved : goal.loop-room-preserved
+loop-room-preserved c =
+    let here = room_here (goal.at.loop-room-preserved c).After-room_of-room in
+    let jobs = as_jobs c.args.jobs.now.items in
+    let l = c.loop-room in
+    let next = next_nearest l.b c.args.jobs.now.items _ c.in-Some.ensures in
+    record {
+      within = next_in_week jobs _ _ next c.requires.small;
+      from_here =
+          walk_on jobs c.args.machines l.b l.invariant.from_here _ here.same (rw here.read at c.if-room-lt0.false) _ next;
+    }
 
 pub returns : goal.returns
 returns c =
-    let r = (goal.at.returns c).After-room_of-room in
-    let z = c.room_of-room.result in
-    let read = back z (omega (arith, small r)) in
-    rw (c.shortage_of.ensures, read)
+    let here = room_here (goal.at.returns c).After-room_of-room in
+    let l = c.loop-room in
+    rw (c.shortage_of.ensures, here.read)
     (sym
-    (walk_short (as_jobs c.args.n c.args.list) c.args.machines c.loop-list.b c.loop-list.invariant.1 z (same r)
-    (rw read at c.if-room-lt0.true)))
+    (walk_short (as_jobs c.args.jobs.now.items) c.args.machines l.b l.invariant.from_here _ here.same (rw here.read at c.if-room-lt0.true)))

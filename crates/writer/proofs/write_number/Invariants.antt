@@ -1,16 +1,11 @@
-use Rattle.std.proofs.Common.{◌≡◌, ◌^◌, ◌≤◌}
-use Rattle.promise.specs.Texts.{digits_from, decimal}
-use Rattle.writer.proofs.Laws.{Left}
+use Rattle.std.proofs.Common.{◌≡◌, ◌++◌, ◌+◌, ◌≤◌, length}
+use Rattle.promise.specs.Texts.{decimal}
+use Rattle.writer.proofs.Laws.{places_from}
 use Rattle.writer.proofs.write_number.Given as goal
 
--- what is still to be put is the number from its place of 10 ^ k down
-abbrev pub invariant-loop-k : goal.invariant-loop-k
-invariant-loop-k l =
+abbrev pub invariant-loop-power : goal.invariant-loop-power
+invariant-loop-power l =
     record {
-      places : l.k ≤ 6;
-      power : l.power ≡ 10 ^ l.k;
-      left : Left (decimal l.n) l.at l.fn.out (digits_from l.k l.n) l.end l.out;
+      so_far : l.page.items ++ places_from l.power-index l.n ≡ l.fn.page.items ++ decimal l.n;
+      fits : length l.page.items + length (places_from l.power-index l.n) ≤ 40960;
     }
-
-abbrev pub decreases-loop-k : goal.decreases-loop-k
-decreases-loop-k l = l.k
