@@ -10,7 +10,7 @@ ghost use Rattle.promise.specs.DeskCalls.{seat_ok, seat_fits, is_unused, all_unu
 use figures::{Job, Jobs};
 use promise::{Desk, Held};
 
-// A seat in use is as it must be; its number is looked at by the caller.
+// A seat in use is as it must be; that it is in use and that the numbers rise is looked at by the caller.
 #[tactic(auto, unfolding(promise::specs::DeskCalls::seat_ok))]
 fn seat_ok(h: &Held, clock: u32) -> bool
     ensures { result ≡ seat_ok clock h.now }

@@ -1,5 +1,5 @@
 // The host window: the planner and the desk on numbers and lent slices, as bytes where C has bytes. `window_c` exports its calls.
-// A call is two functions: one answers a figure or a refusal, and a refusal leaves each lent buffer as it was; the other makes C's word of that.
+// A call on bytes is two functions: one answers a figure or a refusal, and a refusal leaves each lent buffer as it was; the other makes C's word of that.
 #![tactic(auto)]
 
 ghost use Rattle.std.specs.Prelude.{◌≡◌, ◌++◌, ◌*◌, ◌/◌, ◌%◌, ◌≤◌, min, length, take, drop, IfOk};
