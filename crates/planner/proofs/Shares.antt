@@ -7,14 +7,12 @@ use mathlib.Core.List.{List, [], ◌∷◌, ◌++◌, map}
 use lib.ListN.{length, get_or, take, drop, set, length-map}
 use lib.Seq.{drop-cons}
 use Rattle.std.proofs.lemmas.List.{take_more, map-append}
-use Rattle.std.specs.List.{refill}
-use Rattle.arrayvec.proofs.ArrayVecLemmas.{items-with_items}
 use Rattle.model.specs.Rule as Model
 use Rattle.model.specs.Rule.{fresh, fill}
 use Rattle.model.proofs.Lists.{All-both, All-over}
 use Rattle.model.proofs.Shares.{jobs_of, numbers_jobs, jobs_fill, jobs_fresh, fill_below}
 use Rattle.figures.specs.declared.Job.{Job}
-use Rattle.figures.specs.Jobs.{as_jobs}
+use Rattle.figures.specs.Jobs.{as_job, as_jobs}
 use Rattle.rule.specs.declared.Share.{Share}
 use Rattle.rule.specs.Shares.{as_share, as_shares, fresh_of, Apart}
 use Rattle.planner.specs.Writing.{column_of, Slim, Plannable}
@@ -48,16 +46,6 @@ slim_at [] i d s h = absurd (omega arith)
 slim_at (p ∷ shares) zero d s h = s.0
 slim_at (p ∷ shares) (suc i) d s h = slim_at shares i d s.1 (omega arith)
 
--- the shares written back after a slot is filled are those it left
-pub refilled : (C t : ℕ) (shares filled : List Share) → as_shares filled ≡ fill C t (as_shares shares)
-    → as_shares (refill (length shares) shares filled) ≡ fill C t (as_shares shares)
-refilled C t shares filled e = ap as_shares (items-with_items (record { items = shares }) filled same) ∙ e
-  where
-    same : length filled ≡ length shares
-    same =
-        sym (length-map filled as_share) ∙ ap length e ∙ sym (length-map (fill C t (as_shares shares)) (λ p. p.job))
-        ∙ ap length (jobs_fill C t (as_shares shares)) ∙ length-map (as_shares shares) (λ p. p.job) ∙ length-map shares as_share
-
 -- what stays true from slot to slot: the shares are of the jobs
 module _ (jobs : List Job) (p : Plannable jobs) (shares : List Share) (same : jobs_of (as_shares shares) ≡ as_jobs jobs) where
   pub apart_still : Apart shares
@@ -66,6 +54,9 @@ module _ (jobs : List Job) (p : Plannable jobs) (shares : List Share) (same : jo
   module _ (C t : ℕ) (next : List Share) (e : as_shares next ≡ fill C t (as_shares shares)) where
     pub jobs_still : jobs_of (as_shares next) ≡ as_jobs jobs
     jobs_still = ap jobs_of e ∙ jobs_fill C t (as_shares shares) ∙ same
+
+    pub count_still : length next ≡ length jobs
+    count_still = sym (length-map next as_share) ∙ sym (length-map (as_shares next) (λ p. p.job)) ∙ ap length jobs_still ∙ length-map jobs as_job
 
     pub slim_still : Slim next
     slim_still =

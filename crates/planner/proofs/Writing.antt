@@ -23,7 +23,7 @@ use Rattle.figures.specs.Jobs.{as_job, as_jobs}
 use Rattle.rule.specs.declared.Share.{Share}
 use Rattle.rule.specs.Shares.{as_shares, fresh_of}
 use Rattle.planner.specs.Writing.{column_of, Plannable}
-use Rattle.planner.proofs.Shares.{start_shares, start_theirs, refilled, apart_still, jobs_still, slim_still}
+use Rattle.planner.proofs.Shares.{start_shares, start_theirs, apart_still, jobs_still, count_still, slim_still}
 
 pub column_length : (t i : ℕ) (ps : List Model.Share) (plan : List ℕ) → length (column_of t i ps plan) ≡ length plan
 column_length t i [] plan = refl
@@ -220,4 +220,4 @@ unfolding write_from
 write_end C t ps plan e = rw e refl
 
 -- what the goals of the loop over the slots want
-pub ruleset slot_steps = (start_theirs, refilled, apart_still, jobs_still, slim_still, write_begin, write_step, write_end)
+pub ruleset slot_steps = (start_theirs, apart_still, jobs_still, count_still, slim_still, write_begin, write_step, write_end)

@@ -19,7 +19,7 @@ pub fn start(jobs: &Jobs) -> Shares
     ensures { result.items ≡ map fresh_of jobs.now.items }
 {
     let mut shares = Shares::new();
-    for job in jobs.iter() {
+    for job in jobs.as_slice() {
         shares.push(Share::new(*job));
     }
     shares
@@ -47,8 +47,8 @@ fn write_plan(jobs: &Jobs, machines: u32, plan: &mut [u16])
 {
     let mut shares = start(jobs);
     for t in (1..=168).rev() {
-        rule::fill_slot(&mut shares, t, machines);
-        write_slot(&shares, t, plan);
+        shares.fill_slot(t, machines);
+        write_slot(shares.as_slice(), t, plan);
     }
 }
 

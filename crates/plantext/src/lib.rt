@@ -9,7 +9,7 @@ ghost use Rattle.promise.specs.PlanText.{refusal_text, rows_text, plan_text, Tex
 ghost use Rattle.promise.specs.Refusals.{numbered};
 ghost use Rattle.plantext.specs.Rows.{job_lines, rows_lines, plan_lines};
 
-use promise::{Refusal, Text};
+use promise::{Answer, Refusal, Text};
 use writer::Page;
 
 // The two lines of a job: its number, and its machines in slots 1, 2, ..
@@ -98,7 +98,7 @@ pub fn plan_text(bytes: &[u8]) -> Text
 {
     let mut page = Page::new();
     if let Err(refusal) = write_file(&mut page, bytes) {
-        writer::write_refusal(&mut page, refusal);
+        writer::write_refusal(&mut page, Answer::from(refusal));
     }
     text_of(&page)
 }

@@ -1,7 +1,15 @@
 -- The rows of a list: a number that is looked for in the first of them, the rows from one on, the jobs that are loaded.
-use Rattle.std.proofs.Common.{ℕ, length, zero, suc, ◌+◌, ◌-◌, ◌*◌, ◌<◌, ◌≡◌, Bool, true, false, ◌||◌, eqb, List, [], ◌∷◌, ◌++◌, get_or, add-one, refl, sym, ap, ◌∙◌, arith}
+use Rattle.std.proofs.Common.{ℕ, length, zero, suc, ◌+◌, ◌-◌, ◌*◌, ◌<◌, ◌≡◌, Bool, ◌||◌, eqb, List, [], ◌∷◌, ◌++◌, get_or, add-one, refl, sym, ap, subst, ◌∙◌, arith}
 use Rattle.std.proofs.lemmas.List.{map-append}
-use Rattle.std.specs.List.{list_any, range_with_len}
+use Rattle.std.proofs.lemmas.Iterator.{YieldsList}
+use Rattle.std.proofs.lemmas.Iterator.Consumers.{YieldsList-from_shown}
+use Rattle.std.specs.declared.iter.Rev.{Rev}
+use Rattle.std.specs.declared.ops.Range.{Range}
+use Rattle.std.specs.declared.option.Option.{Option}
+use Rattle.std.specs.Iterator.Adapters.{rev_source, rev_steps}
+use Rattle.std.specs.Range.{range_steps_back}
+use Rattle.std.specs.List.{list_any}
+use mathlib.Core.Path.{ap₂}
 use Rattle.model.specs.Jobs as Model
 use Rattle.model.specs.Jobs.{counted, width}
 use Rattle.promise.specs.declared.Answer.{Answer}
@@ -17,21 +25,33 @@ use Rattle.figures.specs.declared.Job.{Job}
 use Rattle.figures.specs.Jobs.{as_job, as_jobs}
 use Rattle.promise.specs.Rows.{row_at, row_count, job_rows, seen_before, row_fault, rows_fault, count_fault, length_fault, many_fault, list_fault}
 
-or_swap : (s t u : Bool) → (s || (t || u)) ≡ (t || (s || u))
-or_swap true true u = refl
-or_swap true false u = refl
-or_swap false t u = refl
+-- n numbers from a on, the last of them first
+abbrev pub down : ℕ → ℕ → List ℕ
+down a zero = []
+down a (suc n) = (a + n) ∷ down a n
 
-any_last : (p : ℕ → Bool) (a n last : ℕ) → a + n ≡ last → list_any p (range_with_len a (suc n)) ≡ (p last || list_any p (range_with_len a n))
-any_last p a zero last e = let f : a ≡ last = omega arith in ap (λ (k : ℕ). p k || false) f
-any_last p a (suc n) last e = ap (λ (t : Bool). p a || t) (any_last p (a + 1) n last (omega arith)) ∙ or_swap (p a) (p last) _
+abbrev pub down_steps : Rev (Range ℕ) → Option ℕ → Rev (Range ℕ) → Type 0
+down_steps = rev_steps (range_steps_back (λ a b. b - a) (λ a b. b ≡ a + 1))
 
-pub seen_any : (rows : List ℕ) (number i : ℕ) → list_any (λ k. eqb (get_or rows (4 * k) 0) number) (range_with_len 0 i) ≡ seen_before rows number i
+-- a range from its end yields them
+pub YieldsList-from_down : {s : Rev (Range ℕ)} (n : ℕ) → rev_source s ≡ record { start = 0; end = n } → YieldsList down_steps (λ x. x) s (down 0 n)
+YieldsList-from_down {s} n e =
+    let all : n - 0 ≡ n = omega arith in
+    subst (YieldsList down_steps (λ x. x) s) (ap (λ (r : Range ℕ). down r.start (r.end - r.start)) e ∙ ap (down 0) all)
+    (YieldsList-from_shown down_steps (λ x. x) (λ u. down (rev_source u).start ((rev_source u).end - (rev_source u).start))
+    (λ u t p. ap (λ m. length (down (rev_source u).start m)) p.1.0)
+    (λ u x t p.
+    let m = (rev_source t).end - (rev_source t).start in
+    let more : (rev_source u).end - (rev_source u).start ≡ suc m = omega (arith, p.0, p.1.0, p.1.2) in
+    let last : (rev_source u).start + m ≡ x = omega (arith, p.0, p.1.0, p.1.1, p.1.2) in
+    ap (down (rev_source u).start) more ∙ ap₂ (λ (k a : ℕ). k ∷ down a m) last (sym p.0)) s)
+
+pub seen_any : (rows : List ℕ) (number i : ℕ) → list_any (λ k. eqb (get_or rows (4 * k) 0) number) (down 0 i) ≡ seen_before rows number i
 unfolding row_at
 seen_any rows number zero = refl
 seen_any rows number (suc i) =
-    any_last (λ k. eqb (get_or rows (4 * k) 0) number) 0 i i (omega arith)
-    ∙ ap (λ (t : Bool). eqb (get_or rows (4 * i) 0) number || t) (seen_any rows number i)
+    let last : 0 + i ≡ i = omega arith in
+    ap₂ (λ (k : ℕ) (t : Bool). eqb (get_or rows (4 * k) 0) number || t) last (seen_any rows number i)
 
 -- the rows from row i on: row i, then the others
 pub rows_next : (rows : List ℕ) (i n : ℕ) → i < n → rows_fault rows i (n - i) ≡ first (row_fault rows i) (rows_fault rows (i + 1) (n - (i + 1)))

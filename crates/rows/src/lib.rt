@@ -52,7 +52,7 @@ fn seen(rows: &[u32], number: u32, i: usize) -> bool
     requires { (i < 32) × (4 * i ≤ length rows.now) }
     ensures { result ≡ seen_before rows.now number i }
 {
-    (0..i).any(|k| rows[4 * k] == number)
+    (0..i).rev().any(|k| rows[4 * k] == number)
 }
 
 // The first fault of row i: its fields in order, then its number.

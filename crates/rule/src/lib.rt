@@ -1,12 +1,12 @@
 // The one planning core: 01's rule in one slot, machine by machine.
 #![tactic(auto)]
 
-ghost use Rattle.std.specs.Prelude.{◌≡◌, map};
+ghost use Rattle.std.specs.Prelude.{◌≡◌, ◌+◌, ◌≤◌, ◌<◌, [], ◌∷◌, ◌++◌, map, length};
 ghost use Rattle.model.specs.Rule.{qualifies, before, fill};
 ghost use Rattle.rule.specs.Shares.{as_share, as_shares, fresh_of, Apart, bumped, cleared, Picked, Ready};
 
-use arrayvec::ArrayVec;
 use figures::Job;
+use std::marker::Model;
 
 // A job while a plan is made: what is left of its work, and the machines given to it in the slot at hand.
 #[derive(Clone, Copy, Default)]
@@ -16,7 +16,32 @@ pub struct Share {
     pub given: u32,
 }
 
-pub type Shares = ArrayVec<Share, 32>;
+// The shares of the jobs: at most 32, and Copy as the jobs are.
+#[derive(Clone, Copy)]
+pub struct Shares {
+    cells: [Share; 32],
+    len: usize,
+}
+
+impl Model for Shares {
+    ghost use Rattle.std.specs.Prelude.{◌≡◌, ◌≤◌, ◌++◌, length, take, drop};
+    ghost use Rattle.std.proofs.Common.{arith, take-append-drop, length-take-le};
+    ghost use Rattle.figures.specs.Filled.{Filled};
+    ghost use Rattle.rule.specs.declared.Share.{Share as Item};
+
+    ghost Value = { Filled Item };
+
+    ghost view = { λ shares. record { items = take shares.len shares.cells; spare = drop shares.len shares.cells } };
+
+    ghost invariant = { λ shares. (shares.len ≤ 32) × (length shares.cells ≡ 32) };
+
+    ghost inverse = { λ shares. record { cells = shares.items ++ shares.spare; len = length shares.items } };
+
+    ghost inverse_ok = { λ shares h i. record {
+      cells = take-append-drop shares.len shares.cells i;
+      len = length-take-le shares.len shares.cells (omega (arith, h.0, h.1)) i;
+    } };
+}
 
 impl Share {
     // A job before any slot is filled.
@@ -96,5 +121,43 @@ pub fn fill_slot(shares: &mut [Share], t: u32, machines: u32)
             return;
         };
         shares[i].give();
+    }
+}
+
+impl Shares {
+    pub fn new() -> Shares
+        ensures { result.items ≡ [] }
+    {
+        Shares {
+            cells: [Share::default(); 32],
+            len: 0,
+        }
+    }
+
+    // One share more, behind the others.
+    pub fn push(&mut self, share: Share)
+        requires { length self.old.items < 32 }
+        ensures items { self.new.items ≡ self.old.items ++ share ∷ [] }
+        ensures len { length self.new.items ≡ length self.old.items + 1 }
+    {
+        let len = self.len;
+        self.cells[len] = share;
+        self.len = len + 1;
+    }
+
+    pub fn as_slice(&self) -> &[Share]
+        ensures value { result.now ≡ self.now.items }
+        ensures fits { length result.now ≤ 32 }
+    {
+        &self.cells[..self.len]
+    }
+
+    // Slot t filled: fill_slot on the shares in the list. Inlined, as the loops over the slots are a tenth slower with a call.
+    #[inline]
+    pub fn fill_slot(&mut self, t: u32, machines: u32)
+        requires { Apart self.old.items }
+        ensures { as_shares self.new.items ≡ fill machines t (as_shares self.old.items) }
+    {
+        fill_slot(&mut self.cells[..self.len], t, machines);
     }
 }

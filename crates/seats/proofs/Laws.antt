@@ -1,13 +1,12 @@
 -- Laws of the desk's table: the search for a number, a job put in, a job taken out.
 use Rattle.std.proofs.Common.{◌≡◌, Bool, true, false, not, ◌||◌, Some, None, unwrap_or, replicate, eqb, ltb, cond, add-one, ℕ, suc, ◌+◌, ◌-◌, ◌<◌, ◌≤◌, List, [], ◌∷◌, ◌++◌, length, get_or, take, drop, set, refl, sym, ◌∙◌, ap, ap₂, arith}
-use Rattle.std.specs.List.{insert, remove, slice_rotate_right, position, position_from, position_or_len}
+use Rattle.std.specs.List.{insert, remove, position, position_from, position_or_len}
 use Rattle.std.proofs.lemmas.List.Recursion.{is_position_or_len}
 use Rattle.std.proofs.lemmas.List.Sums.{prefix_len-le-length}
-use Rattle.std.proofs.lemmas.List.Edits.{insert-append_left, remove-append_left, length-remove}
+use Rattle.std.proofs.lemmas.List.Edits.{insert_end, insert-append_left, remove-append_left, length-remove}
 use Rattle.std.proofs.lemmas.Bool.Decides.{nat_tests}
-use Rattle.std.proofs.lemmas.List.{take_rest, drop_more, drop_all, set_at, take-replicate, replicate_more, length-take-le, length-drop, append-nil, append_assoc}
+use Rattle.std.proofs.lemmas.List.{take_more_set, drop-set-lt, set_split, drop_more, drop_all, take-replicate, replicate_more, append-nil, append_assoc}
 use Rattle.std.proofs.Math.Seq.{take-append-add}
-use borrow.Rule.Slice.PartMut.{put_mid, mid_of}
 use Rattle.promise.specs.Desk.{unused, table, held_of, desk_of}
 use Rattle.promise.specs.DeskCalls.{is_held, seat_of, seated, without}
 use Rattle.promise.proofs.DeskSeats.{length_seated, held_first, held_few}
@@ -15,35 +14,38 @@ use Rattle.promise.specs.declared.Desk.{Desk}
 use Rattle.promise.specs.declared.Held.{Held}
 use Rattle.seats.specs.Seats.{find_in, rank_in}
 
--- ---- a job put in
+-- ---- the loops: a job put in, a job taken out
 
--- the last of a list goes to its front
-turned : {X : Type 0} (l : List X) (d : X) → 0 < length l → slice_rotate_right l 1 ≡ get_or l (length l - 1) d ∷ take (length l - 1) l
-turned {X} l d h =
-    ap (λ (t : List X). t ++ take (length l - 1) l)
-    (drop_more l (length l - 1) d (omega arith) ∙ ap (λ (t : List X). get_or l (length l - 1) d ∷ t) (drop_all (length l - 1 + 1) l (omega arith)))
+-- the job carried is put down at its seat, and the job of that seat is carried on
+pub passed_on : {X : Type 0} (l : List X) (i : ℕ) (h d : X) → i < length l → insert (set l i h) (i + 1) (get_or l i d) ≡ insert l i h
+passed_on {X} l i h d k =
+    ap₂ (λ (s t : List X). s ++ get_or l i d ∷ t) (take_more_set l i h k) (drop-set-lt (i + 1) l i h (omega arith))
+    ∙ append_assoc (take i l) (h ∷ []) (get_or l i d ∷ drop (i + 1) l)
+    ∙ ap (λ (t : List X). take i l ++ h ∷ t) (sym (drop_more l i d k))
 
--- and what stands there then is written over
-put_back : {X : Type 0} (l : List X) (at k : ℕ) (z h : X) → length l ≡ at + suc k
-    → set (put_mid at (suc k) l (z ∷ take k (drop at l))) at h ≡ take (length l) (insert l at h)
-put_back {X} l at k z h e =
-    let n : length (take at l) ≡ at = length-take-le at l (omega arith) in
-    let p : length l ≡ length (take at l) + suc k = e ∙ ap (λ i. i + suc k) (sym n) in
-    set_at (take at l) z _ h at n
-    ∙ ap (λ (t : List X). take at l ++ h ∷ (take k (drop at l) ++ t)) (drop_all (suc k) (drop at l) (omega (arith, length-drop at l)))
-    ∙ ap (λ (t : List X). take at l ++ h ∷ t) (append-nil (take k (drop at l)))
-    ∙ sym (ap (λ i. take i (insert l at h)) p ∙ take-append-add (take at l) (h ∷ drop at l) (suc k))
+-- past the last seat the job carried falls off
+pub fallen_off : {X : Type 0} (l : List X) (i : ℕ) (h : X) → i ≡ length l → take i (insert l i h) ≡ l
+fallen_off {X} l i h e =
+    ap (λ j. take j (insert l j h)) e
+    ∙ ap₂ (λ (j : ℕ) (t : List X). take j t) (omega arith) (insert_end l h)
+    ∙ take-append-add l (h ∷ []) 0
+    ∙ append-nil l
 
--- after `l[at..].rotate_right(1)` and `l[at] = h`
-pub put_in : {X : Type 0} (l ys : List X) (at : ℕ) (h : X) → at < length l
-    → ys ≡ slice_rotate_right (mid_of at (length l - at) l) 1
-    → set (put_mid at (length l - at) l ys) at h ≡ take (length l) (insert l at h)
-put_in {X} l ys at h k e =
-    let m = drop at l in
-    let long : length (drop at l) ≡ length l - at = length-drop at l in
-    let n : length l - at ≡ suc (length (drop at l) - 1) = omega arith in
-    let f = e ∙ ap (λ (t : List X). slice_rotate_right t 1) (take_rest l at) ∙ turned m h (omega arith) in
-    ap₂ (λ (i : ℕ) (t : List X). set (put_mid at i l t) at h) n f ∙ put_back l at (length m - 1) (get_or m (length m - 1) h) h (omega arith)
+-- the seat to be taken out is given the job of the next, and that is to be taken out
+pub moved_up : {X : Type 0} (l : List X) (i : ℕ) (d : X) → i + 1 < length l → remove (set l i (get_or l (i + 1) d)) (i + 1) ≡ remove l i
+moved_up {X} l i d k =
+    let next = get_or l (i + 1) d in
+    ap₂ (λ (s t : List X). s ++ t) (take_more_set l i next (omega arith)) (drop-set-lt (suc (i + 1)) l i next (omega arith))
+    ∙ append_assoc (take i l) (next ∷ []) (drop (suc (i + 1)) l)
+    ∙ ap (λ (t : List X). take i l ++ t) (ap (λ j. next ∷ drop j l) (sym (add-one (i + 1))) ∙ sym (drop_more l (i + 1) d k) ∙ ap (λ j. drop j l) (add-one i))
+
+-- a last seat that is to be taken out is freed
+pub last_freed : {X : Type 0} (l : List X) (i : ℕ) (free : X) → i + 1 ≡ length l → set l i free ≡ remove l i ++ free ∷ []
+last_freed {X} l i free e =
+    let none : drop (suc i) l ≡ [] = drop_all (suc i) l (omega arith) in
+    set_split l i free (omega arith)
+    ∙ ap (λ (t : List X). take i l ++ free ∷ t) none
+    ∙ ap (λ (t : List X). t ++ free ∷ []) (sym (append-nil (take i l)) ∙ ap (λ (t : List X). take i l ++ t) (sym none))
 
 -- ---- the searches, in std's words
 

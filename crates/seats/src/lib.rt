@@ -25,23 +25,32 @@ fn rank(held: &[Held], number: u32) -> usize
         .unwrap_or(held.len())
 }
 
-// The seats with a job put in; the last seat falls off.
-#[tactic(auto, using(crate::proofs::Laws::put_in))]
+// The seats with a job put in; the last seat falls off. A loop here and in `remove`, since the library's `rotate_right` and `rotate_left` would have the
+// static library for C ask its host for `memmove`.
+#[tactic(auto, using(crate::proofs::Laws::passed_on, crate::proofs::Laws::fallen_off))]
 fn insert(seats: &mut [Held], at: usize, h: Held)
     requires { at < length seats.old }
     ensures { seats.new ≡ take (length seats.old) (insert seats.old at h) }
 {
-    seats[at..].rotate_right(1);
-    seats[at] = h;
+    let mut carried = h;
+    for i in at..seats.len() {
+        let old = seats[i];
+        seats[i] = carried;
+        carried = old;
+    }
 }
 
-// The seats with one freed; the later ones move up, and it goes to the end.
+// The seats with one taken out; the later ones move up, and a free one stands at the end.
+#[tactic(auto, using(crate::proofs::Laws::moved_up, crate::proofs::Laws::last_freed))]
 fn remove(seats: &mut [Held], at: usize)
     requires { at < length seats.old }
     ensures { seats.new ≡ remove seats.old at ++ unused ∷ [] }
 {
-    seats[at] = Held::default();
-    seats[at..].rotate_left(1);
+    let last = seats.len() - 1;
+    for i in at..last {
+        seats[i] = seats[i + 1];
+    }
+    seats[last] = Held::default();
 }
 
 // A new job in its seat, by rising number, at a desk that holds n.

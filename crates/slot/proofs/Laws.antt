@@ -20,7 +20,7 @@ use Rattle.promise.specs.declared.Held.{Held}
 use Rattle.promise.specs.declared.Given.{Given}
 use Rattle.promise.specs.Desk.{unused, table}
 use Rattle.promise.specs.DeskCalls.{pairs, lowered}
-use Rattle.planner.proofs.Shares.{start_shares, start_theirs, refilled, apart_still, jobs_still}
+use Rattle.planner.proofs.Shares.{start_shares, start_theirs, apart_still, jobs_still}
 use Rattle.slot.specs.Slot.{fill_down, given_to, after_shares}
 
 -- ---- slots filled downwards
@@ -38,7 +38,7 @@ down_step C (suc t) ps qs h e =
 pub down_end : (C t : ℕ) (ps : List Model.Share) → t ≡ 0 → fill_down C t ps ≡ ps
 down_end C t ps e = rw e refl
 
-pub ruleset down_steps = (start_theirs, refilled, apart_still, jobs_still, down_begin, down_step, down_end)
+pub ruleset down_steps = (start_theirs, apart_still, jobs_still, down_begin, down_step, down_end)
 
 -- ---- a table of 32 places, filled place by place
 

@@ -24,7 +24,7 @@ pub fn first_slot(jobs: &Jobs, machines: u32) -> Shares
 {
     let mut shares = planner::start(jobs);
     for t in (1..=168).rev() {
-        rule::fill_slot(&mut shares, t, machines);
+        shares.fill_slot(t, machines);
     }
     shares
 }
@@ -35,7 +35,7 @@ pub fn pairs_of(shares: &Shares) -> [Given; 32]
     ensures { result ≡ pairs (map given_to (as_shares shares.now.items)) }
 {
     let mut given = [Given::default(); 32];
-    for (i, share) in shares.iter().enumerate() {
+    for (i, share) in shares.as_slice().iter().enumerate() {
         given[i] = Given {
             number: share.job.number,
             machines: share.given,
@@ -62,7 +62,7 @@ fn kept(shares: &Shares, seats: &[Held; 32]) -> ArrayVec<Held, 32>
     ensures { result.items ≡ after_shares (as_shares shares.now.items) (take (length shares.now.items) seats.now) }
 {
     let mut kept = ArrayVec::new();
-    for (share, h) in shares.iter().zip(seats) {
+    for (share, h) in shares.as_slice().iter().zip(seats) {
         if share.given < h.left {
             kept.push(less_work(*h, share.given));
         }

@@ -46,7 +46,11 @@ pub fn forced_by(jobs: &Jobs, b: u32) -> u32
 fn next_boundary(jobs: &Jobs, b: u32) -> Option<u32>
     ensures { result ≡ next_of b jobs.now.items }
 {
-    jobs.iter().map(|job| job.deadline).filter(|d| b < *d).min()
+    jobs.as_slice()
+        .iter()
+        .map(|job| job.deadline)
+        .filter(|d| b < *d)
+        .min()
 }
 
 // The least short boundary of the jobs in a room of so many machines, if any.

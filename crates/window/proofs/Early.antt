@@ -13,14 +13,11 @@ use Rattle.promise.specs.declared.Refusal.{Refusal}
 use Rattle.promise.specs.Answers.{yes, refusal, fault, first}
 use Rattle.promise.specs.Rows.{row_count, rows_fault, count_fault, length_fault, many_fault, list_fault}
 use Rattle.promise.specs.Window.{words_of, bytes_fault}
-use Rattle.std.specs.Result.{IsErrAnd}
-use Rattle.std.specs.declared.result.Result.{Result}
 use Rattle.rows.specs.Rows.{shape_fault}
-use Rattle.promise.specs.Refusals.{numbered, as_answer}
+use Rattle.promise.specs.Refusals.{numbered}
 use Rattle.promise.proofs.Ladder.{same_number, first_first, first_zero_front}
 use Rattle.promise.proofs.Words.{words_count, row_count_lem}
 use Rattle.window.specs.Words.{early_fault}
-use Rattle.promise.proofs.Exits.{told}
 use Rattle.window.proofs.Refused.{refuses}
 
 module _ (machines : ℕ) (list : List ℕ) where
@@ -29,12 +26,8 @@ module _ (machines : ℕ) (list : List ℕ) where
   unfolding early_fault bytes_fault many_fault shape_fault
   early_shape = rw (row_count_lem list) (sym (first_first (count_fault machines) (fault (not (eqb (length list % 16) 0)) (refusal 2 0 0)) (fault (ltb 32 (length list / 16)) (refusal 3 0 0))))
 
-  pub shape_stops : {A : Type 0} (r : Result A Refusal) (e : Refusal)
-      → IsErrAnd r (λ d. d ≡ e) → numbered e ≡ shape_fault machines (length list) 16 → as_answer r ≡ early_fault machines list
-  shape_stops r e h m = told r e _ h (m ∙ early_shape)
-
-  pub shape_passed : yes ≡ shape_fault machines (length list) 16 → yes ≡ early_fault machines list
-  shape_passed y = y ∙ early_shape
+  pub early_told : (a : Answer) → a ≡ shape_fault machines (length list) 16 → a ≡ early_fault machines list
+  early_told a e = e ∙ early_shape
 
   -- neither 1 nor 2
   module _ (z : (bytes_fault machines list).number ≡ 0) where

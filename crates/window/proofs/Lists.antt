@@ -3,11 +3,11 @@ use Prim.Native.Nat.{ℕ, zero, suc, ◌+◌, ◌*◌, ◌/◌, ◌%◌, ◌≤�
 use native.Mathlib.Omega.{arith}
 use mathlib.Core.Path.{◌≡◌, refl, sym, ◌∙◌, ap, ap₂}
 use mathlib.Core.List.{List, [], ◌∷◌, ◌++◌}
-use lib.ListN.{length, get_or, take, drop}
+use lib.ListN.{length, get_or, set, take, drop}
 use lib.Seq.{length-take-le}
 use borrow.Rule.Slice.PartMut.{mid_of, put_mid}
-use Rattle.std.proofs.lemmas.List.{take_more, length-take, drop_all}
-use Rattle.promise.specs.Window.{word_at, words_from, bytes_of}
+use Rattle.std.proofs.lemmas.List.{take_more, take_more_set, length-take, drop_all}
+use Rattle.promise.specs.Window.{word_at, words_from, words_of, bytes_of}
 use Rattle.std.proofs.Common.{add-one}
 use Rattle.record.proofs.Buffers.{put_more}
 
@@ -15,9 +15,20 @@ words_last : (list : List ℕ) (i n last : ℕ) → i + n ≡ last → words_fro
 words_last list i zero last e = let f : i ≡ last = omega arith in rw f refl
 words_last list i (suc n) last e = ap (λ (ws : List ℕ). word_at list i ∷ ws) (words_last list (suc i) n last (omega arith))
 
--- one more number of the list is read
-pub words_next : (list : List ℕ) (i : ℕ) → words_from list 0 (i + 1) ≡ words_from list 0 i ++ (word_at list i ∷ [])
+words_next : (list : List ℕ) (i : ℕ) → words_from list 0 (i + 1) ≡ words_from list 0 i ++ (word_at list i ∷ [])
 words_next list i = rw (add-one i) (words_last list 0 i i (omega arith))
+
+-- one more number of the list is read
+pub word_read : (list numbers : List ℕ) (i word : ℕ) → i < length numbers → word ≡ word_at list i → take i numbers ≡ words_from list 0 i
+    → take (i + 1) (set numbers i word) ≡ words_from list 0 (i + 1)
+word_read list numbers i word h e so_far =
+    take_more_set numbers i word h ∙ ap₂ (λ (ws : List ℕ) (w : ℕ). ws ++ (w ∷ [])) so_far e ∙ sym (words_next list i)
+
+-- the numbers of whole rows are all
+pub rows_read : (list numbers : List ℕ) → length list % 16 ≡ 0 → take (4 * (length list / 16)) numbers ≡ words_from list 0 (4 * (length list / 16))
+    → take (4 * (length list / 16)) numbers ≡ words_of list
+unfolding words_of
+rows_read list numbers whole read = let n : 4 * (length list / 16) ≡ length list / 4 = omega arith in read ∙ ap (words_from list 0) n
 
 bytes-append : (ms ns : List ℕ) → bytes_of (ms ++ ns) ≡ bytes_of ms ++ bytes_of ns
 bytes-append [] ns = refl

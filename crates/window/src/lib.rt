@@ -6,12 +6,11 @@ ghost use Rattle.std.specs.Prelude.{◌≡◌, ◌++◌, ◌*◌, ◌/◌, ◌%�
 ghost use Rattle.figures.specs.Jobs.{as_job};
 ghost use Rattle.promise.specs.Rows.{row_count};
 ghost use Rattle.promise.specs.Lists.{plan_answer};
-ghost use Rattle.promise.specs.Window.{words_of, bytes_of, bytes_left, pack, Packs, room_word, PlanBytesPromise, PlanNumbersPromise, RoomBytesPromise};
+ghost use Rattle.promise.specs.Window.{words_from, bytes_of, bytes_left, pack, Packs, room_word, PlanBytesPromise, PlanNumbersPromise, RoomBytesPromise};
 ghost use Rattle.promise.specs.DeskWindow.{desk_read, output_fault, OpenBytesPromise, AdmitBytesPromise, WithdrawBytesPromise, LookBytesPromise, RunBytesPromise};
 ghost use Rattle.promise.specs.Refusals.{as_answer, numbered};
 ghost use Rattle.window.specs.Words.{early_fault, word_told, Sendable};
 
-use arrayvec::ArrayVec;
 use figures::Job;
 use promise::{Answer, Desk, Refusal};
 use record::Record;
@@ -37,18 +36,25 @@ fn word(told: Result<u32, Refusal>) -> u64
     }
 }
 
-// The numbers of a list, or 1, 2 or 3 before any is read: there is room for those of 32 rows.
-#[tactic(auto, using(crate::proofs::Early::shape_stops, crate::proofs::Early::shape_passed, crate::proofs::Lists::words_next), unfolding(promise::specs::Window::words_of))]
-fn numbers_in(machines: u32, list: &[u8]) -> Result<ArrayVec<u32, 128>, Refusal>
+// 1, 2 or 3, before any number is read.
+#[tactic(auto, using(crate::proofs::Early::early_told))]
+fn early_fault(machines: u32, list: &[u8]) -> Result<(), Refusal>
     ensures answer { as_answer result ≡ early_fault machines list.now }
-    ensures read { IfOk result (λ numbers. numbers.items ≡ words_of list.now) }
+    ensures shaped { IfOk result (λ _. (length list.now % 16 ≡ 0) × (length list.now / 16 ≤ 32)) }
 {
-    rows::shape_fault(machines, list.len(), 16)?;
-    let mut numbers = ArrayVec::new();
-    for i in 0..list.len() / 4 {
-        numbers.push(record::word_at(list, i));
+    rows::shape_fault(machines, list.len(), 16)
+}
+
+// The first n numbers of a list, in room for those of 32 rows.
+fn words(list: &[u8], n: usize) -> [u32; 128]
+    requires { (n ≤ 128) × (4 * n ≤ length list.now) }
+    ensures { take n result ≡ words_from list.now 0 n }
+{
+    let mut numbers = [0; 128];
+    for i in 0..n {
+        numbers[i] = record::word_at(list, i);
     }
-    Ok(numbers)
+    numbers
 }
 
 // The plan numbers as bytes, lowest first.
@@ -78,8 +84,10 @@ fn plan_bytes(machines: u32, list: &[u8], plan: &mut [u8]) -> Result<u32, Refusa
     ensures sendable { Sendable result }
     ensures promised { PlanBytesPromise machines list.now plan.old (word_told result) plan.new }
 {
-    let numbers = numbers_in(machines, list)?;
-    let rows = numbers.as_slice();
+    early_fault(machines, list)?;
+    let count = 4 * (list.len() / 16);
+    let numbers = words(list, count);
+    let rows = &numbers[..count];
     let size = (plan.len() / 2).min(168 * (rows.len() / 4));
     let mut cells = [0; 5376];
     plan_rows(machines, rows, &mut cells[..size], plan)?;
@@ -111,8 +119,10 @@ fn room_bytes(machines: u32, list: &[u8], boundary: u32) -> Result<u32, Refusal>
     ensures sendable { Sendable result }
     ensures promised { RoomBytesPromise machines list.now boundary (word_told result) }
 {
-    let numbers = numbers_in(machines, list)?;
-    let room = planner::room(machines, numbers.as_slice(), boundary)?;
+    early_fault(machines, list)?;
+    let count = 4 * (list.len() / 16);
+    let numbers = words(list, count);
+    let room = planner::room(machines, &numbers[..count], boundary)?;
     Ok(room_word(room))
 }
 

@@ -5,11 +5,10 @@ ghost use Rattle.std.specs.Prelude.{◌≡◌, false, [], ◌∷◌, ◌++◌, �
 ghost use Rattle.arrayvec.specs.ArrayVec.{array_vec_len};
 ghost use Rattle.promise.specs.Texts.{decimal, newline};
 ghost use Rattle.promise.specs.PlanText.{refusal_text, pair_text, run_line};
-ghost use Rattle.promise.specs.Refusals.{numbered};
 ghost use Rattle.writer.specs.Writing.{line, digit_at, slot_text, slots_text};
 
 use arrayvec::ArrayVec;
-use promise::{Answer, Refusal};
+use promise::Answer;
 
 // What is printed so far, of at most the size of a text. That another text fits is the caller's to know: a writer that
 // tested it could fail.
@@ -57,11 +56,10 @@ pub fn write_line(page: &mut Page, key: &[u8], n: u32)
 }
 
 #[tactic(auto, unfolding(promise::specs::PlanText::refusal_text))]
-pub fn write_refusal(page: &mut Page, refusal: Refusal)
-    requires { length page.old.items + length (refusal_text (numbered refusal)) ≤ 40960 }
-    ensures { page.new.items ≡ page.old.items ++ refusal_text (numbered refusal) }
+pub fn write_refusal(page: &mut Page, answer: Answer)
+    requires { length page.old.items + length (refusal_text answer) ≤ 40960 }
+    ensures { page.new.items ≡ page.old.items ++ refusal_text answer }
 {
-    let answer = Answer::from(refusal);
     write(page, b"result=refused\n");
     write_line(page, b"code=", answer.number);
     write_line(page, b"at=", answer.place);

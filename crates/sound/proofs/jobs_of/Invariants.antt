@@ -1,11 +1,10 @@
-use Rattle.std.proofs.Common.{◌≡◌, take}
-use Rattle.arrayvec.specs.ArrayVec.{array_vec_len}
+use Rattle.std.proofs.Common.{◌≡◌, length, take}
 use Rattle.figures.specs.Jobs.{as_jobs}
 use Rattle.promise.specs.Desk.{to_plan}
 use Rattle.sound.proofs.jobs_of.Given as goal
 
 abbrev pub invariant-loop-h : goal.invariant-loop-h
 invariant-loop-h l = record {
-  counted : array_vec_len l.jobs ≡ l.h-index;
+  counted : length l.jobs.items ≡ l.h-index;
   so_far : as_jobs l.jobs.items ≡ to_plan l.machines l.clock (take l.h-index l.held);
 }
