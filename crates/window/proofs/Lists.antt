@@ -15,7 +15,7 @@ words_last : (list : List ℕ) (i n last : ℕ) → i + n ≡ last → words_fro
 words_last list i zero last e = let f : i ≡ last = omega arith in rw f refl
 words_last list i (suc n) last e = ap (λ (ws : List ℕ). word_at list i ∷ ws) (words_last list (suc i) n last (omega arith))
 
--- one number more
+-- the first i + 1 numbers are the first i, then number i
 pub words_next : (list : List ℕ) (i : ℕ) → words_from list 0 (i + 1) ≡ words_from list 0 i ++ (word_at list i ∷ [])
 words_next list i = rw (add-one i) (words_last list 0 i i (omega arith))
 
